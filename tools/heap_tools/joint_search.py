@@ -135,10 +135,19 @@ def needed_of(probe: Probe, at_least: float, group: Several) -> Several:
 
 
 def cut(candidates: Several) -> List[Several]:
-    """Returns candidates in at most `BLOCKS` blocks of about one length."""
-    count = min(BLOCKS, len(candidates))
-    bounds = [number * len(candidates) // count for number in range(count + 1)]
-    return [candidates[begin:end] for begin, end in zip(bounds, bounds[1:])]
+    """Returns candidates in at most `BLOCKS` blocks of about one length. If a class has no more fields than a block,
+    all are in one: so it does not depend on where blocks end that they are found together."""
+    count, bounds = min(BLOCKS, len(candidates)), [0]
+    for number in range(1, count):
+        end = number * len(candidates) // count
+        of_class = next((at for at in range(end, bounds[-1], -1) if _begins_class(candidates, at)), end)
+        bounds.append(of_class)
+    return [candidates[begin:end] for begin, end in zip(bounds, [*bounds[1:], len(candidates)])]
+
+
+def _begins_class(candidates: Several, at: int) -> bool:
+    """Tests whether a candidate is of another class than the one before it."""
+    return candidates[at].owner != candidates[at - 1].owner
 
 
 def kept(joints: Sequence[Joint]) -> List[int]:

@@ -96,7 +96,8 @@ class Lines:
 
     def ask_for_objects(self) -> Optional[LineObjects]:
         """Asks of some lines which objects gained most, and notes if it is one. Returns them; if there are none, what
-        leads to the answer if that is one object."""
+        leads to the answer if that is one object. A thread that has most of the answer says more than an object without
+        a name."""
         self._ask_for_new()
         several = None
         for number in self._order().to_ask():
@@ -104,7 +105,8 @@ class Lines:
             if len(objects) == 1 and not objects[0].is_element:
                 of_one = objects[0].of_gain / 100
                 self.features[number] = dataclasses.replace(self.features[number], of_one=of_one)
-                return LineObjects(self.every[number], objects)
+                found = LineObjects(self.every[number], objects)
+                return found if objects[0].names else self._thread_of_answer() or found
             if several is None and tell_apart(objects):
                 several = LineObjects(self.every[number], objects)
         return several or self._leading_to_answer() or self._thread_of_answer()

@@ -207,6 +207,8 @@ class LeaksTest(ToolTest):
         self.assertRegex(self.ran("after").said, re.escape(f"{among} holds most: {thread}: ") + "9[0-9]%\n")
         self.found(reporters(2), reporters(12))
         self.assertNotIn("gained most", self.ran("before", "after").said)
+        self.found(reporters(3, has_lists=True), reporters(3, rows=90, has_lists=True))
+        self.assertIn(f"{among} gained most: {thread}: 100%\n", self.ran("before", "after").said)
 
     def test_together(self) -> None:
         """Static fields that hold the growth only together."""

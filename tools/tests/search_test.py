@@ -5,7 +5,7 @@ import os
 import random
 import tempfile
 import unittest
-from itertools import combinations
+from itertools import combinations, product
 from typing import Iterator, List, Sequence, Tuple
 from unittest import mock
 
@@ -115,6 +115,18 @@ class JointTest(unittest.TestCase):
             things: Things = [([way], 60), ([[fields[10].name]], 20), ([[fields[11].name]], 20)]
             text = f"together {', '.join(sorted(str(fields[number]) for number in numbers))}"
             self.assertEqual(self.found(things, fields), [text])
+
+    def test_classes(self) -> None:
+        """Of what holds the same together, the fields of one class are found, wherever they are among others: so it does
+        not depend on how many fields the JDK has."""
+        upper = [field(f"app/Engine.{name}") for name in ("manager", "locks", "protocol")]
+        lower = [field(f"app/{name}") for name in ("Manager.open", "Locks.tables", "Protocol.undone")]
+        ways = [[each.name for each in group] for group in product(*zip(upper, lower))]
+        for before in range(20, 32):
+            fields = [field(f"lib{number}/A.list") for number in range(250)]
+            fields[before:before] = [*upper, *lower]
+            probe = ToldGains([], [(ways, 60)], fields)
+            self.assertEqual(JointSearch(probe, 30, fields).find(), upper, before)
 
     def test_exhaustive(self) -> None:
         """What is found gained enough, and none of it can be left out. Nothing is found if no three gained enough, of

@@ -370,12 +370,13 @@ def buffers(count: int, orders: int, minutes: int = 0) -> bytes:
     return dump.bytes().replace(b"int_____", b"capacity")
 
 
-def reporters(count: int, minutes: int = 0, rows: int = 0) -> Service:
+def reporters(count: int, minutes: int = 0, rows: int = 0, has_lists: bool = False) -> Service:
     """Each of `count` threads `report-n` has 100 bytes in a local variable of its method; the last one has so many rows
-    of 100 bytes there, if there are any."""
+    of 100 bytes there, if there are any. `has_lists`: the variables lead to lists, which have the rows."""
     dump = Service(minutes)
     dump.of_class(6, "java/lang/Thread", fields=["name"])
     dump.of_class(8, "shop/Reporter")
+    dump.of_class(9, "java/util/ArrayList", fields=["elementData"])
     dump.of_class(57, "java/lang/String", fields=["value", "coder"])
     for number in range(1, count + 1):
         dump.thread(number, 70000 + number, [(8, "run")])
@@ -384,9 +385,11 @@ def reporters(count: int, minutes: int = 0, rows: int = 0) -> Service:
         every = range(76000, 76000 + rows) if number == count else ()
         for row in every or [75000 + number]:
             dump.values(row, BYTE, bytes(100))
-        if every:
-            dump.array(75000 + number, 4, *every)
-        dump.local(number, 0, 75000 + number)
+        if every or has_lists:
+            dump.array(77000 + number, 4, *(every or [75000 + number]))
+        if has_lists:
+            dump.instance(78000 + number, 9, 77000 + number)
+        dump.local(number, 0, 78000 + number if has_lists else 77000 + number if every else 75000 + number)
     return dump
 
 
