@@ -117,8 +117,8 @@ class JointTest(unittest.TestCase):
             self.assertEqual(self.found(things, fields), [text])
 
     def test_classes(self) -> None:
-        """Of what holds the same together, the fields of one class are found, wherever they are among others: so it does
-        not depend on how many fields the JDK has."""
+        """Of what holds the same together, the fields of one class are found, wherever they are among others: so it
+        does not depend on how many fields the JDK has."""
         upper = [field(f"app/Engine.{name}") for name in ("manager", "locks", "protocol")]
         lower = [field(f"app/{name}") for name in ("Manager.open", "Locks.tables", "Protocol.undone")]
         ways = [[each.name for each in group] for group in product(*zip(upper, lower))]
