@@ -22,7 +22,7 @@ from heap_tools.probe import GrowthProbe, Probe, RunningCalls
 from heap_tools.reports import Amount, Report, Unit
 from heap_tools.same_program import Taken, other_main, other_program, wrong_order
 from heap_tools.weak_growth import MUCH_WEAKLY_HELD, Followed, followed_of, grown
-from heap_tools.what_counts import PASSING, Way, WhatCounts, side_of, sides_with_calls, without_running_calls
+from heap_tools.what_counts import PASSING, Way, WhatCounts, side_of, sides_of, without_running_calls
 
 #: A dump, or its number.
 Dump = TypeVar("Dump")
@@ -104,11 +104,12 @@ class Comparison:
         if not self.way.calls or unit.percent(self.growth.minus(probe.growth), self.growth) < least:
             return None
 
+        way = self.way._replace(calls=None)
+
         def without(cut: Several) -> Probe:
-            first, last = sides_with_calls((self.first, self.last), self.way, cut)
+            first, last = sides_of((self.first, self.last), way, cut)
             return GrowthProbe(first, last, probe.families, unit)
 
-        way = self.way._replace(calls=None)
         return RunningCalls(self.growth, without, functools.partial(self.probes_between, way=way))
 
 
@@ -158,7 +159,7 @@ def comparison_of(dumps: Sequence[DumpRuns], options: Options) -> Comparison:
     # What holds less than at_least percent is no line, and nothing below it is.
     percent = max(PASSING, options.bounds.first - 1)
     way = without_running_calls(counts, followed.follows, reports, asked.families, asked.unit, growth, percent)
-    first, last = counts.sides(way)
+    first, last = sides_of(ends, way)
     for each in dumps[1:-1]:
         each.learn(last.written)
     probe = GrowthProbe(first, last, asked.families, asked.unit)

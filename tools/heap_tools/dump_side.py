@@ -117,12 +117,6 @@ class DumpSide:
             objects, size = objects + amount.objects, size + amount.bytes
         return Held(families, Amount(objects, size))
 
-    def report_of_rest(self, group: Several) -> Report:
-        """Returns the report of the dump without what a group holds of which it was asked."""
-        known = self.knows(key_of(group))
-        assert known
-        return self.report_without(known.table, known.labels[key_of(group)])
-
     def report_without(self, table: HeldTable, label: int) -> Report:
         """Returns the report of the dump without what a label holds."""
         lost = table.held(label)

@@ -8,7 +8,8 @@ from heap_tools.candidates import FEW, FIELD, STATIC, Candidate
 from heap_tools.container_sizes import container_sizes
 from heap_tools.dump_side import Several, key_of
 from heap_tools.heap_objects import FieldValue, HeapObjects
-from heap_tools.joint_search import JointSearch, by_amount, needed_of
+from heap_tools.joint_search import DeepestSearch, JointSearch, alone, by_amount, needed_of
+from heap_tools.line_order import MOST
 from heap_tools.object_names import ObjectNames
 from heap_tools.object_parts import FieldUses
 from heap_tools.object_shares import amounts_of
@@ -25,44 +26,64 @@ def find_below(search: Search, upper: Optional[Retained], uses: FieldUses) -> Li
     probe = search.probe
     if upper and leads_to_container(probe, upper, uses):
         return []
-    every = probe.candidates.units().items()
-    units = {key_of(unit): unit for name, unit in every if not upper or name in upper.lost}
-    heavy = [unit for unit in units.values() if probe.share(unit) >= search.at_least]
-    needed = [each for each in (needed_of(probe, search.at_least, unit) for unit in heavy) if each]
-    lower = JointSearch(probe, search.at_least, fields_below(probe, upper)).find() if upper else []
+    needed = needed_below(search, upper)
+    lower = joint_below(search, upper) if upper else []
     needed += [lower] if len(lower) > 1 and lead_apart(probe, lower, uses) else []
     known = {held.key for held in search.found}
     found = {key_of(each): by_amount(probe, each) for each in needed if key_of(each) not in known}
     return [probe.retained(each)._replace(candidates=each) for each in found.values()]
 
 
+def needed_below(search: Search, upper: Optional[Retained]) -> List[Several]:
+    """Returns of each class the fields that hold enough only together: nothing below several, since each of these leads
+    to other objects."""
+    if upper and len(upper.candidates) > 1:
+        return []
+    probe, every = search.probe, search.probe.candidates.units().items()
+    units = {key_of(unit): unit for name, unit in every if not upper or name in upper.lost}
+    heavy = [unit for unit in units.values() if probe.share(unit) >= search.at_least]
+    return [each for each in (needed_of(probe, search.at_least, unit) for unit in heavy) if each]
+
+
+def joint_below(search: Search, upper: Retained) -> Several:
+    """Returns the fields of few instances below `upper` that hold enough only together, none if there are none: below
+    several the deepest that gained most of what these did. Mostly all fields hold too little so in the later dump."""
+    probe, fields = search.probe, fields_below(search.probe, upper)
+    is_several = len(upper.candidates) > 1
+    at_least = MOST * probe.share(upper.candidates) if is_several else search.at_least
+    if probe.unit.percent(probe.beside(fields, alone(fields)), probe.growth) < at_least:
+        return []
+    return (DeepestSearch if is_several else JointSearch)(probe, at_least, fields).find()
+
+
 def fields_below(probe: Probe, upper: Retained) -> List[Candidate]:
     """Returns the fields of few instances that may be below `upper`: those that do not hold all that it does."""
     fields = [each for each in probe.candidates.few() if each.kind == FIELD]
+    probe.ask_together([upper.candidates, *([each] for each in fields)])
     return [each for each in fields if not probe.holds_all(probe.retained([each]), upper)]
 
 
 def lead_apart(probe: Probe, fields: Several, uses: FieldUses) -> bool:
     """Tests whether no two fields lead to one object: two containers may have the same elements, but what two fields
     lead to themselves is where things pile up."""
-    targets = [_targets(probe, probe.retained([each]), uses) for each in fields]
+    targets = [_targets(probe, each, uses) for each in fields]
     return all(targets) and sum(map(len, targets)) == len(set().union(*targets))
 
 
 def leads_to_container(probe: Probe, held: Retained, uses: FieldUses) -> bool:
-    """Tests whether it may be in what `held` leads to that many things pile up: in an object that has more than `FEW`
-    elements, in one of more than `FEW` objects, or behind several fields, a local variable or threads."""
-    targets = _targets(probe, held, uses)
-    if not 1 <= len(targets) <= FEW:
+    """Tests whether it may be in what one of the candidates of `held` leads to that many things pile up: in an object
+    that has more than `FEW` elements, in one of more than `FEW` objects, or below a local variable or threads."""
+    every = [_targets(probe, each, uses) for each in held.candidates]
+    if not all(1 <= len(targets) <= FEW for targets in every):
         return True
-    return max(container_sizes(uses.objects, targets).values(), default=0) > FEW
+    return max(container_sizes(uses.objects, set().union(*every)).values(), default=0) > FEW
 
 
-def _targets(probe: Probe, held: Retained, uses: FieldUses) -> Set[int]:
-    """Returns the identifiers of the objects to which one field leads."""
-    if len(held.candidates) > 1 or held.candidates[0].kind not in (FIELD, STATIC):
+def _targets(probe: Probe, field: Candidate, uses: FieldUses) -> Set[int]:
+    """Returns the identifiers of the objects to which a field leads."""
+    if field.kind not in (FIELD, STATIC):
         return set()
-    field, id_at = held.candidates[0], probe.runs.dump.id
+    id_at = probe.runs.dump.id
     if field.kind == STATIC:
         return probe.candidates.values_of_static(field.key)
     return {id_at(each.value) for each in uses.of(field).values}

@@ -41,6 +41,9 @@ class JointSearch:
     them holds alone does not count, unless `counts_alone` is set, or it is a thread: what threads lead to may be held
     together below."""
 
+    #: The part of what any others gained that the fewest must have gained to be found.
+    part = NEARLY
+
     def __init__(
         self, probe: Probe, at_least: float, candidates: Sequence[Candidate], counts_alone: bool = False
     ) -> None:
@@ -56,15 +59,20 @@ class JointSearch:
             joints = self._minimal(blocks)
             if joints and len(blocks) == len(left):
                 every = [[left[number] for number in joint.blocks] for joint in joints]
-                return min(zip(every, joints), key=lambda pair: preference(*pair))[0]
+                return min(zip(every, joints), key=lambda pair: self.preference(*pair))[0]
             left = [each for number in kept(joints) for each in blocks[number]]
         return []
 
+    def preference(self, group: Several, joint: Joint) -> Tuple[int, ...]:
+        """Returns what the best ones are the smallest by: how many are not own, of how many classes they are, how many
+        they are, and how much they hold."""
+        return sum(not each.is_own for each in group), len({each.owner for each in group}), len(group), joint.objects
+
     def _minimal(self, blocks: Sequence[Several]) -> List[Joint]:
-        """Returns the fewest blocks that gained enough, and nearly as much as any others."""
+        """Returns the fewest blocks that gained enough, also beside what any others did."""
         found: List[Joint] = []
         every = self._joints(blocks)
-        least = max(self.least, NEARLY * max(joint.gain for joint in every))
+        least = max(self.least, self.part * max(joint.gain for joint in every))
         for joint in every:
             if joint.gain >= least and not any(set(other.blocks) < set(joint.blocks) for other in found):
                 found.append(joint)
@@ -93,6 +101,16 @@ class JointSearch:
         return found
 
 
+class DeepestSearch(JointSearch):
+    """A search for the deepest of all that gained enough: those that hold least."""
+
+    part = 0.0
+
+    def preference(self, group: Several, joint: Joint) -> Tuple[int, ...]:
+        """Returns how much they hold."""
+        return (joint.objects,)
+
+
 def alone(candidates: Several) -> List[Several]:
     """Returns the candidates of which it does not count what they hold alone, each as a group."""
     return [[each] for each in candidates if not each.is_thread]
@@ -117,6 +135,7 @@ def kin_with(probe: Probe, at_least: float, explained: Sequence[Several], candid
     `explained` holds, own ones first, then those that gained most."""
     known, taken = key_of(candidates), frozenset().union(*map(key_of, explained))
     kin = [group for group in probe.candidates.kin().values() if len(group) > 1 and known.issuperset(key_of(group))]
+    probe.ask_together([*kin, *explained])
     gains = [(probe.unit.percent(probe.gain_beside(group, explained), probe.growth), group) for group in kin]
     enough = sorted((pair for pair in gains if pair[0] >= at_least), key=lambda it: (not it[1][0].is_own, -it[0]))
     return [[each for each in group if each.key not in taken] for _, group in enough[:MOST_KIN]]
@@ -158,12 +177,6 @@ def kept(joints: Sequence[Joint]) -> List[int]:
         if not found or len(found.union(joint.blocks)) <= MOST_KEPT:
             found.update(joint.blocks)
     return sorted(found)
-
-
-def preference(group: Several, joint: Joint) -> Tuple[int, int, int, int]:
-    """Returns what the best answer is the smallest by: how many are not own, of how many classes they are, how many
-    they are, and how much they hold."""
-    return sum(not each.is_own for each in group), len({each.owner for each in group}), len(group), joint.objects
 
 
 def deepened(probe: Probe, group: Several) -> Several:

@@ -14,7 +14,7 @@ from heap_tools.leak_options import Options
 from heap_tools.probe import Probe, Retained, RunningCalls, nothing_between
 from heap_tools.reports import Amount, Row, Unit
 from heap_tools.weak_growth import Followed, followed_of
-from heap_tools.what_counts import PASSING, Way, WhatCounts, sides_with_calls, without_running_calls
+from heap_tools.what_counts import PASSING, Way, WhatCounts, sides_of, without_running_calls
 
 #: The share of what is reachable from which on the first line is shown, in percent.
 AT_LEAST = 20
@@ -44,7 +44,7 @@ class HeapQuestion:
             return None
 
         def without(cut: Several) -> Probe:
-            (side,) = sides_with_calls([self.runs], self.way, cut)
+            (side,) = sides_of([self.runs], self.way._replace(calls=None), cut)
             return Probe(side, probe.families, probe.unit)
 
         return RunningCalls(probe.growth, without, nothing_between)
@@ -77,7 +77,7 @@ def question_of(runs: DumpRuns, options: Options) -> HeapQuestion:
         require_objects(families[0], runs, base)
     whole, percent = unit.of(base.total(families)), max(PASSING, options.bounds.first - 1)
     way = without_running_calls(counts, followed.follows, [base], families, unit, whole, percent)
-    (side,) = counts.sides(way)
+    (side,) = sides_of([runs], way)
     in_calls = base.total(families).minus(side.base.total(families))
     return HeapQuestion(runs, Probe(side, families, unit, runs.report.total(families)), followed, way, in_calls)
 

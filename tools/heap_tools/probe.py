@@ -76,6 +76,11 @@ class Probe:
         if unknown:
             ask([(side, [*unknown, *self.kept]) for side in self.sides()])
 
+    def ask_together(self, groups: Sequence[Several]) -> None:
+        """Asks all dumps at once for a table that knows all of `groups`, unless each has one."""
+        if not all(side.knows(*map(key_of, groups)) for side in self.sides()):
+            ask([(side, [*groups, *self.kept]) for side in self.sides()])
+
     def retained(self, group: Several) -> Retained:
         """Returns what a group holds: what is not reachable without it."""
         key = key_of(group)

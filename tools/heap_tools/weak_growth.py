@@ -6,7 +6,7 @@ from heap_tools.dump_runs import DumpRuns
 from heap_tools.humanize import counted, more_are, size
 from heap_tools.reports import Amount, Report, Unit
 from heap_tools.weak_kinds import WeakKind, handler_words, usual_class
-from heap_tools.what_counts import USUAL, Way, Weak, WhatCounts
+from heap_tools.what_counts import Way, Weak, WhatCounts
 
 #: The share of the growth, in percent, from which on it is said what is held by weak references alone.
 MUCH_WEAKLY_HELD = 5
@@ -31,17 +31,11 @@ def followed_of(
 ) -> Tuple[Followed, List[Report]]:
     """Returns which weak references are to be followed in the first and the last of some dumps, or in one, and their
     reports with these: all if the user wants that, else those of a kind that alone hold most of what grew then, or of
-    what is reachable in one dump. Soft ones never are by themselves: what they hold is a cache. If they hold little,
-    and running calls do, the reports are without these, too."""
+    what is reachable in one dump. Soft ones never are by themselves: what they hold is a cache."""
     if wants_all:
         return Followed(Weak.ALL), counts.reports(Way(Weak.ALL))
-    dumps, quiet = counts.dumps, counts.reports(USUAL)
-    if is_little_lost(dumps, quiet, families, unit, grown(quiet, families, unit)):
-        return Followed(), quiet
-    cut = counts.reports(Way())
+    dumps, cut = counts.dumps, counts.reports(Way())
     growth = grown(cut, families, unit)
-    if is_little_lost(dumps[-1:], cut[-1:], families, unit, growth):
-        return Followed(), cut
     whole = weak_growth(cut, counts.reports(Way(Weak.ALL)), families)
     if not is_most(unit.of(whole), growth):
         return Followed(amount=whole), cut
@@ -53,16 +47,6 @@ def followed_of(
     if isinstance(best.follows, WeakKind):
         best = Followed(best.follows, why=why_followed(best.follows, best.amount, dumps))
     return best, counts.reports(Way(best.follows))
-
-
-def is_little_lost(
-    dumps: Sequence[DumpRuns], cut: Sequence[Report], families: Optional[List[str]], unit: Unit, growth: int
-) -> bool:
-    """Tests whether so little is not reachable in any of the dumps without what is cut that it does not matter: less
-    than half of what would be said, of the growth with it or without."""
-    both = [(runs.report.total(families), less.total(families)) for runs, less in zip(dumps, cut)]
-    lost = max(unit.of(whole) - unit.of(left) for whole, left in both)
-    return 200 * lost < MUCH_WEAKLY_HELD * (growth - lost)
 
 
 def is_most(part: int, rest: int) -> bool:

@@ -1,13 +1,12 @@
 """What counts in dumps: which weak references are followed, and whether local variables are.
 
-Calls run while a dump is made, and their local variables lead into what fields hold: they mostly do not count. Mostly
-nothing else is known than what is reachable without weak references and without local variables. If that is not enough,
-it is asked with local variables, by which it is known, too, without those of the JDK's calls; and at last one run for
-each dump shows what is reachable by each other way to count.
+Calls run while a dump is made, and their local variables lead into what fields hold: they mostly do not count. One run
+for each dump shows what is reachable by each way to count; the next one, what each candidate holds by the way that is
+chosen.
 """
 
 import enum
-from typing import Dict, List, NamedTuple, Optional, Sequence, Union
+from typing import List, NamedTuple, Optional, Sequence, Union
 
 from heap_tools.candidates import FIELD, WEAK, Candidates
 from heap_tools.dump_runs import DumpRuns
@@ -41,50 +40,25 @@ class Way(NamedTuple):
     calls: Optional[Calls] = None
 
 
-#: The way that is tried first, then that with all calls, by which it is known how that is which is tried third.
-USUAL, WITH_CALLS, WITH_OWN_CALLS = (Way(Weak.NONE, calls) for calls in (Calls.ALL, None, Calls.OF_JDK))
-#: All other ways.
-OTHER_WAYS = [
+#: All ways.
+WAYS = [
     Way(follows, calls)
     for follows in (*Weak, WeakKind.FINAL, WeakKind.PHANTOM, WeakKind.WEAK)
     for calls in (None, *Calls)
-    if (follows, calls) != USUAL
 ]
 
 
 class WhatCounts:
-    """Some dumps, and what is reachable in them by each way to count."""
+    """Some dumps, and what is reachable in them by each way to count: one run for each dump shows it."""
 
     def __init__(self, dumps: Sequence[DumpRuns]) -> None:
         self.dumps = dumps
-        self._sides: Dict[Way, List[DumpSide]] = {}
-        self._reports: Dict[Way, List[Report]] = {}
-
-    def sides(self, way: Way) -> List[DumpSide]:
-        """Returns the dumps as they are asked by a way: what each candidate holds is known, what all fields of a class
-        do, and what the JDK's calls do."""
-        if way not in self._sides:
-            sides = self._sides[way] = [side_of(each, way) for each in self.dumps]
-            groups = first_groups(sides[-1])
-            ask([(side, [*groups, side.candidates.calls_of_jdk()]) for side in sides])
-        return self._sides[way]
+        self._sides = [side_of(each, Way(Weak.ALL)) for each in dumps]
+        self._tables = ask_places([(side, [cut_by(side, way) for way in WAYS]) for side in self._sides])
 
     def reports(self, way: Way) -> List[Report]:
         """Returns the reports of the dumps by a way."""
-        if way in self._sides or way in (USUAL, WITH_CALLS):
-            return [side.base for side in self.sides(way)]
-        if way == WITH_OWN_CALLS:
-            return [side.report_of_rest(side.candidates.calls_of_jdk()) for side in self.sides(WITH_CALLS)]
-        if not self._reports:
-            self._ask()
-        return self._reports[way]
-
-    def _ask(self) -> None:
-        """Asks at once for the reports by all ways."""
-        every = [side_of(each, Way(Weak.ALL)) for each in self.dumps]
-        tables = ask_places([(side, [cut_by(side, way) for way in OTHER_WAYS]) for side in every])
-        for number, way in enumerate(OTHER_WAYS):
-            self._reports[way] = [side.report_without(table, number) for side, table in zip(every, tables)]
+        return [side.report_without(table, WAYS.index(way)) for side, table in zip(self._sides, self._tables)]
 
 
 def side_of(runs: DumpRuns, way: Way) -> DumpSide:
@@ -95,10 +69,10 @@ def side_of(runs: DumpRuns, way: Way) -> DumpSide:
     return DumpSide(runs, candidates, [*side.cut, *cut_by(side, way)], side.roots)
 
 
-def sides_with_calls(dumps: Sequence[DumpRuns], way: Way, cut: Several) -> List[DumpSide]:
-    """Returns dumps as they are asked by a way, but for running calls, which count, without some candidates: what each
-    other one holds is known."""
-    sides = [side_of(each, way._replace(calls=None)).without(cut) for each in dumps]
+def sides_of(dumps: Sequence[DumpRuns], way: Way, cut: Several = ()) -> List[DumpSide]:
+    """Returns dumps as they are asked by a way, without some candidates: what each other one holds is known, and what
+    all fields of a class do."""
+    sides = [side_of(each, way).without(cut) for each in dumps]
     groups = first_groups(sides[-1])
     ask([(side, groups) for side in sides])
     return sides

@@ -9,7 +9,7 @@ from heap_tools.dump_runs import DumpRuns
 from heap_tools.dump_side import ask
 from heap_tools.faults import Fault
 from heap_tools.heapmark import Heapmark
-from heap_tools.what_counts import USUAL, side_of
+from heap_tools.what_counts import Way, side_of
 from tests.support.services import cache
 from tests.support.tool_test import ToolTest
 
@@ -36,7 +36,7 @@ class DumpRunsTest(ToolTest):
         for text in ("echo >> dump; echo '9 9   9  -  A'", "rm dump; exit 1"):
             variables = {"HEAPMARK": os.path.abspath("heapmark"), "RETAINED": self.program(text)}
             runs = self.runs(variables)
-            side = side_of(runs, USUAL)
+            side = side_of(runs, Way())
             with self.assertRaisesRegex(Fault, f"^{CHANGED}$"):
                 ask([(side, [side.candidates.statics()])])
 

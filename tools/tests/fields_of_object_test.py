@@ -101,6 +101,31 @@ def stores(count: int, is_shared: bool) -> DumpWriter:
     return dump
 
 
+def database(count: int) -> DumpWriter:
+    """Returns a dump of a database to which two static fields lead. It has so many temporary tables, which its store
+    and its session have both, and in three other fields so many small things of one kind each."""
+    dump = DumpWriter(time=60_000 * count)
+    dump.of_class(1, "shop/Closing", {"CLOSED": 100})
+    dump.of_class(2, "shop/Engine", {"DATABASES": 101})
+    dump.of_class(3, "shop/Database", fields=["store", "session", "maps", "logs", "pages"])
+    dump.of_class(4, "shop/Store", fields=["tables"])
+    dump.of_class(5, "shop/Session", fields=["temporary"])
+    dump.of_class(6, "[Ljava/lang/Object;")
+    tables, *others = (range(start, start + count) for start in (10_000, 20_000, 30_000, 40_000))
+    dump.array(100, 6, 110)
+    dump.array(101, 6, 110)
+    dump.instance(110, 3, 111, 112, 115, 116, 117)
+    dump.instance(111, 4, 113)
+    dump.instance(112, 5, 114)
+    for number, elements in zip(range(113, 118), [tables, tables, *others]):
+        dump.array(number, 6, *elements)
+        for each in elements if number > 113 else ():
+            dump.values(each, BYTE, bytes(200 if elements is tables else 8))
+    for number in (1, 2):
+        dump.root(number)
+    return dump
+
+
 class BelowTest(unittest.TestCase):
     """What is found below the answer."""
 
@@ -145,6 +170,13 @@ class BelowTest(unittest.TestCase):
                     dump.root(number)
             self.assertEqual(self.paths(*dumps)[0], wanted)
 
+    def test_below_several(self) -> None:
+        """Below two static fields that lead to one object the fields are the answer that hold most of it together."""
+        above = "together static shop/Closing.CLOSED, static shop/Engine.DATABASES"
+        growth = growth_of(database(70), database(300))
+        line = answer_of(growth, Bounds()).lines[0]
+        self.assertEqual(line.path(), f"{above} > together shop/Session.temporary, shop/Store.tables")
+
     def test_collection(self) -> None:
         """The fields of a collection are not tried: that it holds what is in it says nothing."""
         paths = self.paths(*(Clients([count], names=("shop/PartList", "shop/ClientMap")) for count in (70, 300)))
@@ -156,11 +188,13 @@ class BelowTest(unittest.TestCase):
         self.assertEqual((paths[0], [it for it in paths if "together" in it]), (LIST, []))
 
     def test_container(self) -> None:
-        """What leads to more than a few elements or objects is a container of many things."""
+        """What leads to more than a few elements or objects is a container of many things, as are several of which one
+        does."""
         for count, is_large in (FEW, False), (FEW + 1, True):
             found = self.containers(Clients([1] * count, is_listed=True), "Service.LIST", "Host.content")
-            self.assertEqual(found, [is_large, is_large, True])
-        self.assertEqual(self.containers(Clients([1, 1]), "Service.POOL", "Pool.first"), [False, False, True])
+            self.assertEqual(found, [is_large] * 3)
+        self.assertEqual(self.containers(Clients([1, 1]), "Service.POOL", "Pool.first"), [False] * 3)
+        self.assertEqual(self.containers(Clients([FEW + 1]), "Service.POOL", "Client.hosts"), [False, True, True])
 
     def containers(self, dump: DumpWriter, *names: str) -> List[bool]:
         """Tests of fields and of all of them together whether they lead to containers."""

@@ -17,7 +17,7 @@ from heap_tools.probe import GrowthProbe
 from heap_tools.reports import Amount, Report, Row, Unit
 from heap_tools.snapshot_bytes import in_common_bytes
 from heap_tools.snapshots import Snapshot
-from heap_tools.what_counts import Way, WhatCounts
+from heap_tools.what_counts import Way, sides_of
 from tests.support.dump_writer import BYTE
 from tests.support.laid_out_heap import COMPRESSED, LaidOutHeap, bytes_of_odd_arrays, odd_arrays
 from tests.support.marked import MarkedRuns, held_by
@@ -110,7 +110,7 @@ class TablesTest(unittest.TestCase):
     def probe(self, *counts: int) -> GrowthProbe:
         """Returns what asks two heaps with odd arrays."""
         dumps = counted_in_heap([MarkedRuns(odd_arrays(count).read()) for count in counts], False).dumps
-        first, last = WhatCounts(dumps).sides(Way())
+        first, last = sides_of(dumps, Way())
         return GrowthProbe(first, last, None, Unit.BYTES)
 
     def test_arrays(self) -> None:
@@ -123,7 +123,9 @@ class TablesTest(unittest.TestCase):
         self.assertEqual(probe.gain(held.candidates), Amount(901, after - before))
         self.assertEqual(probe.growth, Amount(901, after - before))
         self.assertEqual(sum(each.bytes for each in held.lost.values()), after)
-        rest = probe.side.report_of_rest(held.candidates)
+        known = probe.side.knows(held.key)
+        assert known
+        rest = probe.side.report_without(known.table, known.labels[held.key])
         self.assertEqual(probe.base.reachable.minus(rest.reachable), held.amount)
         for each in (probe, probe.earlier):
             for name in ("byte[]", "int[]", "[Ljava/lang/Object;"):

@@ -23,7 +23,7 @@ from heap_tools.probe import GrowthProbe, Probe
 from heap_tools.reference_paths import ReferencePaths
 from heap_tools.reports import Amount, Report, Unit
 from heap_tools.search import Search
-from heap_tools.what_counts import WhatCounts, Weak, Way, first_groups, side_of, without_running_calls
+from heap_tools.what_counts import WhatCounts, Weak, Way, first_groups, side_of, sides_of, without_running_calls
 from tests.support.marked import MarkedRuns, lost
 from tests.support.random_heaps import random_pair
 from tests.support.told_probe import Things, ToldGains, field
@@ -302,7 +302,7 @@ class RandomTest(unittest.TestCase):
         bases = counts.reports(Way())
         growth = bases[1].reachable.bytes - bases[0].reachable.bytes
         way = without_running_calls(counts, Weak.NONE, bases, None, Unit.BYTES, growth, AT_LEAST - 1)
-        first, last = counts.sides(way)
+        first, last = sides_of(both, way)
         return GrowthProbe(first, last, None, Unit.BYTES)
 
     def candidates(self, probe: Probe) -> List[Candidate]:

@@ -10,7 +10,7 @@ from heap_tools.weak_growth import Followed, followed_of, is_most
 from heap_tools.weak_kinds import WeakKind, usual_class
 from heap_tools.what_counts import Way, Weak, WhatCounts, side_of
 from tests.support.dump_writer import BYTE, DumpWriter
-from tests.support.marked import RETAINED, MarkedRuns
+from tests.support.marked import MarkedRuns
 
 KINDS = {"soft": 11, "weak": 12, "final": 13, "phantom": 14}
 
@@ -94,14 +94,6 @@ class FollowedTest(unittest.TestCase):
         self.assertEqual(
             self.followed(referring(9, {}), referring(9, {"final": 30}, blocked=True)).why, said + blocked + so
         )
-
-    def test_asked_once(self) -> None:
-        """Each dump is asked once without weak references and running calls; if much is lost so, once with these, and
-        if it is that by weak references, once for all ways."""
-        for kept, counts, runs in ((20_000, {"soft": 2}, 2), (1500, {"soft": 2}, 6), (1500, {"final": 30}, 6)):
-            both, before = (referring(1000, {}), referring(kept, counts)), RETAINED.runs
-            followed_of(WhatCounts(both), None, Unit.BYTES)
-            self.assertEqual(RETAINED.runs - before, runs, counts)
 
     def test_ways(self) -> None:
         """Only the references of the kind lead somewhere, in any dump."""

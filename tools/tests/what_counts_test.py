@@ -5,11 +5,8 @@ from typing import Any, Dict, List, Optional, Tuple
 
 from heap_tools.reports import Amount, Report, Row, Unit
 from heap_tools.what_counts import (
-    OTHER_WAYS,
     PASSING,
-    USUAL,
-    WITH_CALLS,
-    WITH_OWN_CALLS,
+    WAYS,
     Calls,
     Way,
     Weak,
@@ -19,9 +16,6 @@ from heap_tools.what_counts import (
 )
 from tests.support.marked import RETAINED, MarkedRuns, marked
 from tests.support.services import running
-
-#: The ways without weak references that are tried after the usual one.
-OF_CALLS = WITH_CALLS, WITH_OWN_CALLS
 
 
 def report_of(lost: int) -> Report:
@@ -91,16 +85,15 @@ class WaysTest(unittest.TestCase):
         return marked(dump)
 
     def test_reports(self) -> None:
-        """The report by each way is that of the dump in which what it does not follow is cut. The usual way takes a
-        run, that with calls another one, which shows that without the JDK's, too, and all others a third."""
+        """The report by each way is that of the dump in which what it does not follow is cut. All take one run."""
         runs, before = self.runs(), RETAINED.runs
-        counts = WhatCounts([runs])
-        for way in sorted((USUAL, *OTHER_WAYS), key=lambda it: it.follows is not Weak.NONE):
+        counts, sizes = WhatCounts([runs]), {}
+        for way in WAYS:
             (report,), side = counts.reports(way), side_of(runs, way)
             whole = runs.report_of(runs.reachable(side.cut, side.roots))
             self.assertEqual((report.families, report.reachable), (whole.families, whole.reachable), way)
-            self.assertEqual(RETAINED.runs - before, {USUAL: 1, **dict.fromkeys(OF_CALLS, 2)}.get(way, 3), way)
-        sizes = {way: counts.reports(way)[0].reachable.bytes for way in (USUAL, *OTHER_WAYS)}
+            sizes[way] = report.reachable.bytes
+        self.assertEqual(RETAINED.runs - before, 1)
         self.assertEqual(sizes[Way(Weak.ALL)] - sizes[Way()], 7)
         self.assertEqual(sizes[Way()] - sizes[Way(Weak.NONE, Calls.OF_JDK)], 5)
 

@@ -24,7 +24,7 @@ from heap_tools.plain_dumps import is_dump
 from heap_tools.probe import Probe, Retained
 from heap_tools.reports import Unit
 from heap_tools.search import Search
-from heap_tools.what_counts import Way, Weak, WhatCounts, without_running_calls
+from heap_tools.what_counts import Way, Weak, WhatCounts, sides_of, without_running_calls
 
 ABOUT = """
 Shows what holds the objects of a class in a heap dump: for each field, static
@@ -141,7 +141,7 @@ def find_holders(options: Namespace, name: Optional[str]) -> Found:
         if families:
             require_objects(families[0], runs, base)
         whole = unit.of(base.total(families))
-        (side,) = counts.sides(without_running_calls(counts, follows, [base], families, unit, whole))
+        (side,) = sides_of([runs], without_running_calls(counts, follows, [base], families, unit, whole))
         probe = Probe(side, families, unit)
         search, statics = Search(probe, options.at_least or (10 if families else 20)), side.candidates.statics()
         search.find()

@@ -11,7 +11,7 @@ from heap_tools.label_text import Labels, Place
 from heap_tools.probe import GrowthProbe, Probe, Retained
 from heap_tools.reports import Amount, Report, Row, Unit
 from heap_tools.retained_program import LabelledDump, RetainedProgram
-from heap_tools.what_counts import Way, WhatCounts, first_groups, side_of
+from heap_tools.what_counts import Way, first_groups, side_of, sides_of
 from tests.support.dump_writer import DumpWriter
 from tests.support.labelled_heap import LabelledHeap
 
@@ -88,7 +88,7 @@ def probe_of(dump: DumpWriter) -> Probe:
 
 def growth_of(before: DumpWriter, after: DumpWriter) -> GrowthProbe:
     """Returns what asks two dumps who holds the growth of their bytes."""
-    first, last = WhatCounts([marked(before), marked(after)]).sides(Way())
+    first, last = sides_of([marked(before), marked(after)], Way())
     return GrowthProbe(first, last, None, Unit.BYTES)
 
 
