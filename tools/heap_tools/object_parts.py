@@ -16,11 +16,12 @@ MOST_OBJECTS = 100_000
 class Parts(NamedTuple):
     """Objects of a dump, each with the reference by which it holds something. `others` are some that have the field,
     but no value in it. `are_elements`: they are the elements of a list, and the references are those of the list to
-    them."""
+    them. `numbers`: which elements these are; of a map nothing, since its entries move."""
 
     values: List[FieldValue]
     others: Sequence[int] = ()
     are_elements: bool = False
+    numbers: Sequence[int] = ()
 
 
 class FieldUses:
@@ -71,7 +72,9 @@ def elements(objects: HeapObjects, lists: Set[int], most: Optional[int] = None, 
     found = [(places[each], number) for number, each in enumerate(targets) if each in places]
     values = [FieldValue(at, objects.element_at(largest, number), largest) for at, number in found]
     entries = MapEntries(objects, [each.instance for each in values])
-    return Parts(entries.elements() or values if entries.are_entries else values, are_elements=True)
+    if entries.are_entries:
+        return Parts(entries.elements() or values, are_elements=True)
+    return Parts(values, are_elements=True, numbers=[number for _, number in found])
 
 
 def _arrays(objects: HeapObjects, identifiers: Set[int]) -> List[int]:

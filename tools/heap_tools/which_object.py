@@ -1,9 +1,9 @@
 """Which objects of many hold most of what a field holds, or gained most of what it gained, and what names them."""
 
-from typing import Dict, Iterator, List, NamedTuple, Optional, Sequence
+from typing import Dict, Iterator, List, Mapping, NamedTuple, Optional, Sequence, Set, Tuple
 
 from heap_tools import hprof_format as hprof
-from heap_tools.candidates import FIELD, LOCAL, STATIC, THREAD
+from heap_tools.candidates import FEW, FIELD, LOCAL, STATIC, THREAD
 from heap_tools.heap_dump import HeapDump
 from heap_tools.heap_objects import FieldValue, HeapObjects
 from heap_tools.naming import Name, alone_in
@@ -14,6 +14,9 @@ from heap_tools.probe import GrowthProbe, Probe, Retained
 from heap_tools.reports import Amount
 from heap_tools.thread_counts import shown_name
 from heap_tools.thread_locals import BY_THREAD_LOCAL, ThreadLocals
+
+#: The names of objects, by their places.
+Names = Mapping[int, Sequence[Name]]
 
 #: Of how many objects it is asked at least which hold most: of one it is no question.
 FEWEST_OBJECTS = 2
@@ -313,23 +316,47 @@ class GrownParts:
 
 def same_objects(now: PartsOfField, places: Sequence[int], earlier: PartsOfField) -> Dict[int, FieldValue]:
     """Returns which of the parts of an earlier dump the objects at `places` are: the one of the same class that has a
-    name of theirs which no other has in either dump. One without such a name is that with the same identifier and class
-    if the same owner names both: an identifier alone shows nothing, since objects move."""
+    name of theirs which no other has in either dump. Of those without such a name it is the one that the same owner
+    names, else that with the same number in a list of as many elements. An identifier alone shows nothing, since
+    objects move; of many objects only that with the same one is asked for its owners."""
     alone, alone_before = (alone_in(of.names.own_names(of.places)) for of in (now, earlier))
-    parts = earlier.parts.values
-    by_id = {earlier.objects.dump.id(each.instance + 1): each for each in parts}
-    class_of = earlier.objects.class_name
-    by_name = {(class_of(at), it): each for each in parts for at in [each.instance] for it in alone_before[at]}
-    found: Dict[int, FieldValue] = {}
-    for at in places:
-        class_name, here = now.objects.class_name(at), by_id.get(now.objects.dump.id(at + 1))
-        called = {by_name[class_name, name] for name in alone[at] if (class_name, name) in by_name}
-        if len(called) == 1:
-            found[at] = called.pop()
-        elif here and not alone[at] and class_of(here.instance) == class_name:
-            if not set(now.names_of([at])[at]).isdisjoint(earlier.names_of([here.instance])[here.instance]):
-                found[at] = here
-    return found
+    nameless = [at for at in places if not alone[at]]
+    same = matching(now, {at: alone[at] for at in places}, earlier, alone_before)
+    if nameless:
+        ids, every = {now.objects.dump.id(at + 1) for at in nameless}, [
+            at for at in earlier.places if not alone_before[at]
+        ]
+        asked = every if len(every) <= FEW else [at for at in every if earlier.objects.dump.id(at + 1) in ids]
+        by_number = with_same_number(now, nameless, earlier, every)
+        same = {**by_number, **same, **matching(now, now.names_of(nameless), earlier, earlier.names_of(asked))}
+    return same
+
+
+def matching(now: PartsOfField, names: Names, earlier: PartsOfField, names_before: Names) -> Dict[int, FieldValue]:
+    """Returns which of the parts of an earlier dump objects are: of their class the only one with a name of theirs."""
+    parts = {each.instance: each for each in earlier.parts.values}
+    by_name: Dict[Tuple[str, Name], Set[int]] = {}
+    for at in parts.keys() & names_before.keys():
+        for name in names_before[at]:
+            by_name.setdefault((earlier.objects.class_name(at), name), set()).add(at)
+    of_name = {at: [by_name.get((now.objects.class_name(at), name), set()) for name in names[at]] for at in names}
+    called = {at: set().union(*found) for at, found in of_name.items()}
+    return {at: parts[found.pop()] for at, found in called.items() if len(found) == 1}
+
+
+def with_same_number(
+    now: PartsOfField, places: Sequence[int], earlier: PartsOfField, places_before: Sequence[int]
+) -> Dict[int, FieldValue]:
+    """Returns which of the objects at `places_before` those at `places` are: of their class that with the same number
+    among as many elements. So a fixed array has its parts, but a list from which some went and to which others came
+    has not."""
+    numbers, parts = now.parts.numbers, earlier.parts
+    if len(numbers) != len(parts.numbers):
+        return {}
+    of_class = {each.instance: earlier.objects.class_name(each.instance) for each in parts.values}
+    before = {number: each for number, each in zip(parts.numbers, parts.values) if each.instance in places_before}
+    pairs = ((each.instance, before[number]) for number, each in zip(numbers, now.parts.values) if number in before)
+    return {at: it for at, it in pairs if at in places and now.objects.class_name(at) == of_class[it.instance]}
 
 
 def hidden(found: Sequence[HoldingObject], shows_values: bool) -> List[HoldingObject]:

@@ -7,6 +7,7 @@ import random
 import unittest
 from typing import Dict, List, Optional, Sequence, Tuple
 
+from heap_tools.candidates import FEW
 from heap_tools.heap_objects import HeapObjects
 from heap_tools.map_entries import LONGEST_CHAIN
 from heap_tools.object_parts import FieldUses
@@ -379,10 +380,10 @@ class GrewTest(unittest.TestCase):
                 self.assertEqual([each.has_gained for each in self.grown(known, later)], [])
 
     def test_owner(self) -> None:
-        """An object without a name is the same one if its identifier, its class and the name of its owner are."""
+        """An object without a name is the same one if its class and the name of its owner are, wherever it is."""
         for first, owner, of_class, wanted in (
             (1000, "eu", 4, [True]),
-            (1001, "eu", 4, []),
+            (1001, "eu", 4, [True]),
             (1000, "us", 4, []),
             (1000, "eu", 21, []),
         ):
@@ -401,6 +402,29 @@ class GrewTest(unittest.TestCase):
         dump.string(501, owner)
         dump.root(500)
         return with_class(dump, first + 1, of_class)
+
+    def test_many_owners(self) -> None:
+        """Of many objects without names it is the same one only if its identifier is the same, too."""
+        for first, wanted in (1000, [True]), (3000, []):
+            others = [10] * (FEW + 1)
+            before, after = self.owned([9000, 100, *others], 1000, "eu", 4), self.owned(
+                [9000, 4000, *others], first, "eu", 4
+            )
+            self.assertEqual([each.has_gained for each in self.grown(before, after)], wanted, first)
+
+    def test_numbers(self) -> None:
+        """An element without a name is the same one if it is of the same class, and its number in a list of as many
+        elements is the same."""
+        before, field = [9000, 100, 10], "shop/Queues.ALL"
+        for sizes, of_class, wanted in (
+            ([9000, 4000, 10], 4, [True]),
+            ([9000, 4000, 10], 21, []),
+            ([9000, 4000, 10, 10], 4, []),
+        ):
+            after = Queues(sizes, names=[None] * len(sizes), first=3000)
+            after.of_class(21, "shop/LateQueue", superclass=4)
+            found = self.grown(Queues(before, names=[None] * 3), with_class(after, 3001, of_class), field)
+            self.assertEqual([each.has_gained for each in found], wanted, (sizes, of_class))
 
     def test_class(self) -> None:
         """An object with a name that one of another class had before is not that one."""
