@@ -51,7 +51,7 @@ def joint_below(search: Search, upper: Retained) -> Several:
     probe, fields = search.probe, fields_below(search.probe, upper)
     is_several = len(upper.candidates) > 1
     at_least = MOST * probe.share(upper.candidates) if is_several else search.at_least
-    if probe.unit.percent(probe.beside(fields, alone(fields)), probe.growth) < at_least:
+    if not fields or probe.unit.percent(probe.beside(fields, alone(fields)), probe.growth) < at_least:
         return []
     return (DeepestSearch if is_several else JointSearch)(probe, at_least, fields).find()
 
