@@ -14,6 +14,7 @@ from typing import List, NamedTuple, Sequence, Set, Tuple
 from heap_tools.candidates import FIELD, Candidate
 from heap_tools.dump_side import DumpSide, Several, ask_places, key_of
 from heap_tools.held_table import HeldTable
+from heap_tools.label_text import Place
 from heap_tools.line_order import MOST, NEARLY
 from heap_tools.probe import Probe
 
@@ -82,12 +83,19 @@ class JointSearch:
         """Asks what all blocks, pairs and triples hold only together, in one run for each dump. The fewest come
         first."""
         several = [each for count in range(MOST_NEEDED) for each in combinations(range(len(blocks)), count + 1)]
-        groups: List[Several] = [[it for number in each for it in blocks[number]] for each in several]
         sides = self.probe.sides()
-        tables = ask_places([(side, [side.places(it) for it in [*groups, *self._alone]]) for side in sides])
-        now, *before = (self._held_together(side, table, len(groups)) for side, table in zip(sides, tables))
+        tables = ask_places([(side, self._places(side, blocks, several)) for side in sides])
+        now, *before = (self._held_together(side, table, len(several)) for side, table in zip(sides, tables))
         gains = [held - sum(was[number][0] for was in before) for number, (held, _) in enumerate(now)]
         return [Joint(each, gain, objects) for each, gain, (_, objects) in zip(several, gains, now)]
+
+    def _places(
+        self, side: DumpSide, blocks: Sequence[Several], several: Sequence[Tuple[int, ...]]
+    ) -> List[Sequence[Place]]:
+        """Returns the places of `several` blocks each, then those of each candidate that does not count alone."""
+        of_block = [side.places(each) for each in blocks]
+        together = [[place for number in each for place in of_block[number]] for each in several]
+        return [*together, *map(side.places, self._alone)]
 
     def _held_together(self, side: DumpSide, table: HeldTable, count: int) -> List[Tuple[int, int]]:
         """Returns for each of the first `count` labels how much it holds that no later label does, and how many

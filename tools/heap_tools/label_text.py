@@ -3,12 +3,10 @@
 docs/LABELS.md lists its lines. A place is a word and its numbers, as the text has them.
 """
 
-from typing import Iterator, NamedTuple, Sequence
+from typing import Iterable, Iterator, NamedTuple, Sequence
 
 #: Where a reference is: `class ID K`, `object ID K` or `root K`.
 Place = str
-#: How many bytes of a text are made at a time.
-TEXT_PART = 1 << 16
 
 
 def in_class(class_id: int, number: int) -> Place:
@@ -39,23 +37,16 @@ class Labels(NamedTuple):
     roots: Sequence[int] = ()
     places: Sequence[Sequence[Place]] = ()
 
-    def lines(self) -> Iterator[str]:
-        """Yields the lines of the text."""
-        for place in self.cut:
-            yield f"cut {place}\n"
-        for identifier in self.roots:
-            yield f"root {identifier}\n"
-        for number, places in enumerate(self.places):
-            for place in places:
-                yield f"label {number} {place}\n"
-
     def text(self) -> Iterator[bytes]:
-        """Yields the text in parts of about `TEXT_PART` bytes."""
-        part, size = [], 0
-        for line in self.lines():
-            part.append(line)
-            size += len(line)
-            if size >= TEXT_PART:
-                yield "".join(part).encode()
-                part, size = [], 0
-        yield "".join(part).encode()
+        """Yields the lines of the text: what is cut, the roots, and each label by itself."""
+        yield _lines("cut", self.cut)
+        yield _lines("root", map(str, self.roots))
+        for number, places in enumerate(self.places):
+            yield _lines(f"label {number}", places)
+
+
+def _lines(head: str, places: Iterable[str]) -> bytes:
+    """Returns a line for each place, which begins with `head`."""
+    begin = f"\n{head} "
+    text = begin.join(["", *places])  # in one call: a run may have a million lines
+    return f"{text[1:]}\n".encode() if text else b""
