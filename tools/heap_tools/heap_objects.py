@@ -7,11 +7,9 @@ from weakref import WeakKeyDictionary
 
 from heap_tools import hprof_format as hprof
 from heap_tools.class_names import CLASSES, PRIMITIVES, family
-from heap_tools.heap_dump import Field, HeapDump, Span
+from heap_tools.heap_dump import Field, HeapDump
 from heap_tools.label_text import Place, in_object
-from heap_tools.object_places import FEWEST_SEGMENTS, SomeOfClass, shared_by_class
-from heap_tools.object_records import chosen_objects
-from heap_tools.parallel import shared
+from heap_tools.object_places import SomeOfClass, chosen_in, places_of_objects, shared_by_class
 from heap_tools.span_order import order_of_segments
 
 #: A field of the instances of a class: the class that declares it, where its value is, counted from the begin of an
@@ -67,30 +65,17 @@ class HeapObjects:
         return {key: self._string(at, arrays.get(values[key])) for key, at in places.items()}
 
     def places_of(self, identifiers: Iterable[int]) -> Dict[int, int]:
-        """Returns where the objects with these identifiers are, in the order of the file. Reads the segments in which
-        they must be if identifiers ascend, and all others only for what is not there."""
+        """Returns where the objects with these identifiers are, in the order of the file. Looks into the segments in
+        which they must be if identifiers ascend, and into the others only for what is not there."""
         wanted = {each for each in identifiers if each} - self.dump.classes.keys()
-        order, segments = order_of_segments(self.dump), self.dump.segments
+        order, parts = order_of_segments(self.dump), places_of_objects(self.dump).parts
         near = order.around(wanted) if order.is_ascending else {}
-        likely = [each for number, each in enumerate(segments) if number in near]
-        others = [each for number, each in enumerate(segments) if number not in near]
-        found = self._places_in(likely, wanted)
-        found.update(self._places_in(others, wanted - found.keys()))
+        found: Dict[int, int] = {}
+        for number in [*near, *(each for each in range(len(parts)) if each not in near)]:
+            if len(found) == len(wanted):
+                break
+            found.update(chosen_in(parts[number], wanted))
         return dict(sorted(found.items(), key=lambda each: each[1]))
-
-    def _places_in(self, segments: List[Span], wanted: Set[int]) -> Dict[int, int]:
-        """Returns where those of the objects with the identifiers `wanted` are that are in these segments."""
-
-        def found_in(some: List[Span]) -> Dict[int, int]:
-            found: Dict[int, int] = {}
-            for at, identifier in chosen_objects(self.dump, some, wanted):
-                found[identifier] = at
-                if len(found) == len(wanted):
-                    break
-            return found
-
-        parts = shared(found_in, segments, FEWEST_SEGMENTS) if wanted and segments else []
-        return {key: at for part in parts for key, at in part.items()}
 
     def class_of(self, at: int) -> int:
         """Returns the identifier of the class of the instance at `at`, 0 if an array is there."""

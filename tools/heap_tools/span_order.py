@@ -31,16 +31,18 @@ class SpanOrder:
     def around(self, wanted: Iterable[int]) -> Dict[int, List[int]]:
         """Returns the numbers of the parts that have the objects before and after the identifiers `wanted`, and which
         of these are in each, if identifiers ascend in the file."""
+        by_place: Dict[int, List[int]] = {}
+        for each in wanted:
+            by_place.setdefault(bisect_right(self._firsts, each), []).append(each)
         begins = self._begins
         chosen: Dict[int, List[int]] = {}
-        for each in wanted:
-            place = bisect_right(self._firsts, each)
+        for place, some in by_place.items():
             # Mostly one part; not where the addresses of a part go on from those of the last space to those of the
             # first.
             numbers = {begins[place - 1][1]} if place else set()
             numbers |= {max(0, begins[place][1] - 1)} if place < len(begins) else set()
             for number in numbers:
-                chosen.setdefault(number, []).append(each)
+                chosen.setdefault(number, []).extend(some)
         return chosen
 
 

@@ -2,15 +2,15 @@
 
 import random
 import unittest
-from typing import Container, Iterator, List, Sequence
+from typing import AbstractSet, Iterator, List, Sequence, Tuple
 from unittest import mock
 
 from heap_tools import hprof_format as hprof
 from heap_tools import heap_objects, object_places, object_records
-from heap_tools.heap_dump import HeapDump, Span
+from heap_tools.heap_dump import HeapDump
 from heap_tools.heap_objects import HeapObjects
-from heap_tools.object_places import places_by_class
-from heap_tools.object_records import PlacedObject
+from heap_tools.object_places import chosen_in, places_of_objects
+from heap_tools.object_records import PlacedPart
 from heap_tools.span_order import SpanOrder, order_of_segments
 from tests.support.dump_writer import BYTE, DumpWriter
 from tests.support.laid_out_heap import read
@@ -82,19 +82,17 @@ class OrderTest(unittest.TestCase):
 class PlacesTest(unittest.TestCase):
     """HeapObjects.places_of"""
 
-    def read_for(self, dump: HeapDump, wanted: Sequence[int]) -> List[Span]:
-        """Looks objects up, and returns which segments are read for that."""
-        order_of_segments(dump)
-        spans: List[Span] = []
+    def read_for(self, dump: HeapDump, wanted: Sequence[int]) -> List[int]:
+        """Looks objects up, and returns the numbers of the segments that are looked into for that."""
+        parts, read = places_of_objects(dump).parts, []
 
-        def noted(of: HeapDump, some: List[Span], identifiers: Container[int]) -> Iterator[PlacedObject]:
-            for each in some:
-                spans.append(each)
-                yield from object_records.chosen_objects(of, [each], identifiers)
+        def noted(part: PlacedPart, identifiers: AbstractSet[int]) -> Iterator[Tuple[int, int]]:
+            read.append(next(number for number, each in enumerate(parts) if each is part))
+            return chosen_in(part, identifiers)
 
-        with mock.patch.object(heap_objects, "chosen_objects", noted):
+        with mock.patch.object(heap_objects, "chosen_in", noted):
             HeapObjects(dump).places_of(wanted)
-        return spans
+        return read
 
     def test_places(self) -> None:
         """In any order of the identifiers each object is found where it is, in the order of the file; null, a class and
@@ -110,34 +108,31 @@ class PlacesTest(unittest.TestCase):
                     self.assertEqual(objects.places_of([identifier, 1004]), {identifier: at})
 
     def test_cost(self) -> None:
-        """If identifiers ascend, at most two segments are read for an object, and none for a class; for one that is
-        missing all are, each once."""
-        identifiers = two_spaces(100)  # in so few segments that this process reads them
+        """If identifiers ascend, at most two segments are looked into for an object, and none for a class; for one that
+        is missing all are, each once."""
+        identifiers = two_spaces(100)
         dump = dump_of(identifiers)
         for some in (identifiers[:1], identifiers[70:71], [identifiers[3], identifiers[50], identifiers[80]]):
             self.assertLessEqual(len(self.read_for(dump, some)), 2 * len(some))
         self.assertEqual(self.read_for(dump, [0, ORDER, ORDERS]), [])
-        self.assertEqual(sorted(self.read_for(dump, [*identifiers[:1], 1004])), dump.segments)
+        every = list(range(len(dump.segments)))
+        self.assertEqual(sorted(self.read_for(dump, [*identifiers[:1], 1004])), every)
 
 
-class ChosenTest(unittest.TestCase):
-    """chosen_objects"""
+class PlacesOfObjectsTest(unittest.TestCase):
+    """places_of_objects"""
 
-    def test_chosen(self) -> None:
-        """Objects are chosen by their identifiers."""
+    def test_parts(self) -> None:
+        """Objects of a segment are chosen by their identifiers, in its order."""
         for id_size in (4, 8):
             identifiers = mixed(30)
-            dump = dump_of(identifiers, id_size)
+            parts = places_of_objects(dump_of(identifiers, id_size)).parts
+            self.assertEqual([identifier for part in parts for identifier in part[0]], identifiers)
             for some in (identifiers[4:9], identifiers, identifiers[:0]):
-                found = list(object_records.chosen_objects(dump, dump.segments, [*some]))
-                self.assertEqual([identifier for _, identifier in found], some)
-                self.assertEqual([dump.id(at + 1) for at, _ in found], some)
+                found = [each for part in parts for each, _ in chosen_in(part, {*some})]
+                self.assertEqual(found, some)
 
-
-class PlacesByClassTest(unittest.TestCase):
-    """places_by_class"""
-
-    def test_places(self) -> None:
+    def test_by_class(self) -> None:
         """Instances are found by their class, in one process or several, and with 0 what else may refer to others; the
         objects are walked over once for each dump."""
         for id_size in (4, 8):
@@ -145,10 +140,11 @@ class PlacesByClassTest(unittest.TestCase):
             dump = dump_of(identifiers, id_size)
             with mock.patch.object(object_places, "placed_objects", wraps=object_records.placed_objects) as walks:
                 for _ in range(2):
-                    found = places_by_class(dump)
-            self.assertEqual([dump.id(at + 1) for at in found[ORDER]], identifiers[::3])
-            others = {dump.bytes[at] for at in found[0]}
+                    found = places_of_objects(dump)
+            self.assertEqual([dump.id(at + 1) for at in found.by_class[ORDER]], identifiers[::3])
+            others = {dump.bytes[at] for at in found.by_class[0]}
             self.assertEqual(others, {hprof.CLASS_DUMP, hprof.OBJECT_ARRAY})
+            self.assertEqual([dump.id(at + 1) for part in found.parts for at in part[1]], identifiers)
             self.assertLessEqual(walks.call_count, 1)  # none, if other processes did it
 
 

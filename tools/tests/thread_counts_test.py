@@ -4,11 +4,11 @@ import unittest
 from typing import List
 from unittest import mock
 
-from heap_tools import heap_dump, heap_objects
+from heap_tools import heap_dump
 from heap_tools.candidates import THREADS, Candidates
 from heap_tools.class_names import shown as shown_by_dump
 from heap_tools.heap_dump import Frame, HeapDump
-from heap_tools.object_records import chosen_objects
+from heap_tools.heap_objects import HeapObjects
 from heap_tools.reports import Report
 from heap_tools.thread_counts import (
     FRAMES,
@@ -123,15 +123,15 @@ class ThreadCountsTest(unittest.TestCase):
     def test_many(self) -> None:
         """Of many threads the names are read once, though several ask, and each method once."""
         dump = self.read(threads(["main", *(f"report-{number}" for number in range(600))]))
-        walks, decoded = mock.Mock(wraps=chosen_objects), mock.Mock(wraps=shown_by_dump)
-        with mock.patch.object(heap_objects, "chosen_objects", walks), mock.patch.object(heap_dump, "shown", decoded):
+        looked_up = mock.patch.object(HeapObjects, "places_of", autospec=True, side_effect=HeapObjects.places_of)
+        with looked_up as places_of, mock.patch.object(heap_dump, "shown", wraps=shown_by_dump) as decoded:
             candidates = Candidates(dump, Report())
             for _ in range(3):
                 self.assertEqual(len(candidates.threads()), 601)
                 self.assertEqual([each.count for each in candidates.threads_alike()], [600])
                 self.assertEqual(len(grown_thread_counts(self.read(threads(["main"])), dump)), 1)
                 self.assertEqual(Candidates(dump, Report()).instances((THREADS, "report-*"), Report()), 600)
-        self.assertEqual(sum(call[0][0] is dump for call in walks.call_args_list), 3)
+        self.assertEqual(sum(call[0][0].dump is dump for call in places_of.call_args_list), 3)
         self.assertLess(decoded.call_count, 20)
 
     def test_none(self) -> None:
