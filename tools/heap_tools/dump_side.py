@@ -103,6 +103,10 @@ class DumpSide:
         other = self.runs.report
         return Report(rows, reachable, other.unreachable, other.unresolved, other.in_heap)
 
+    def keep(self, table: HeldTable, groups: Sequence[Several]) -> None:
+        """Keeps a table, whose first labels are those of these groups."""
+        self.tables.append(GroupTable(table, {key_of(group): number for number, group in enumerate(groups)}))
+
     def knows(self, *keys: GroupKey) -> Optional[GroupTable]:
         """Returns the last table that knows all these groups, None if there is none."""
         return next((it for it in reversed(self.tables) if all(key in it.labels for key in keys)), None)
@@ -144,4 +148,4 @@ def ask(questions: Sequence[Tuple[DumpSide, Sequence[Several]]]) -> None:
     every = [list({key_of(group): group for group in groups}.values()) for _, groups in questions]
     asked = [(side, [side.places(group) for group in groups]) for (side, _), groups in zip(questions, every)]
     for (side, _), groups, table in zip(questions, every, ask_places(asked)):
-        side.tables.append(GroupTable(table, {key_of(group): number for number, group in enumerate(groups)}))
+        side.keep(table, groups)

@@ -80,22 +80,28 @@ class JointSearch:
         return found
 
     def _joints(self, blocks: Sequence[Several]) -> List[Joint]:
-        """Asks what all blocks, pairs and triples hold only together, in one run for each dump. The fewest come
-        first."""
+        """Asks what all blocks, pairs and triples hold only together, in one run for each dump. The fewest come first.
+        Tables of single candidates are kept, with what the probe keeps: what is found is one of their groups."""
         several = [each for count in range(MOST_NEEDED) for each in combinations(range(len(blocks)), count + 1)]
-        sides = self.probe.sides()
+        sides, others = self.probe.sides(), self.probe.kept
         tables = ask_places([(side, self._places(side, blocks, several)) for side in sides])
-        now, *before = (self._held_together(side, table, len(several)) for side, table in zip(sides, tables))
+        if max(map(len, blocks)) == 1:
+            groups = [*([blocks[number][0] for number in each] for each in several), *others]
+            for side, table in zip(sides, tables):
+                side.keep(table, groups)
+        labels = len(several) + len(others)
+        now, *before = (self._held_together(side, table, labels) for side, table in zip(sides, tables))
         gains = [held - sum(was[number][0] for was in before) for number, (held, _) in enumerate(now)]
         return [Joint(each, gain, objects) for each, gain, (_, objects) in zip(several, gains, now)]
 
     def _places(
         self, side: DumpSide, blocks: Sequence[Several], several: Sequence[Tuple[int, ...]]
     ) -> List[Sequence[Place]]:
-        """Returns the places of `several` blocks each, then those of each candidate that does not count alone."""
+        """Returns the places of `several` blocks each, those of what the probe keeps, then those of each candidate that
+        does not count alone."""
         of_block = [side.places(each) for each in blocks]
         together = [[place for number in each for place in of_block[number]] for each in several]
-        return [*together, *map(side.places, self._alone)]
+        return [*together, *map(side.places, [*self.probe.kept, *self._alone])]
 
     def _held_together(self, side: DumpSide, table: HeldTable, count: int) -> List[Tuple[int, int]]:
         """Returns for each of the first `count` labels how much it holds that no later label does, and how many
