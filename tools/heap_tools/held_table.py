@@ -16,6 +16,8 @@ DIVISOR = 16
 TABLE_LINE = re.compile(rb" *([0-9]{1,19}) +([0-9]{1,19})  ( [0-9]|1[0-5])  (-|[0-9]{1,19})  ([!-~]+)")
 #: A line that says which two sets another one is made of.
 JOINT = re.compile(rb"set ([0-9]{1,19}) = ([0-9]{1,19}) \+ ([0-9]{1,19})")
+#: Either of both, to its end.
+ANY_LINE = re.compile(b"%b\n|%b\n" % (TABLE_LINE.pattern, JOINT.pattern))
 #: What is shown in place of a set without labels.
 EMPTY = -1
 
@@ -47,25 +49,30 @@ class HeldTable:
         self._by_set: Dict[int, List[int]] = {}
         self._known: Dict[int, FrozenSet[int]] = {}
 
-    def add(self, line: bytes) -> bool:
-        """Adds a line of the text. Returns whether it is one."""
-        found = TABLE_LINE.fullmatch(line)
-        if found:
-            objects, size, remainder, of_set, name = found.groups()
+    def add(self, text: bytes) -> bool:
+        """Adds the lines of a text. Returns whether it has no others, and ends with a line."""
+        end, numbers, by_set, lines = 0, self._numbers, self._by_set, self._lines
+        for line in ANY_LINE.finditer(text):
+            if line.start() != end:
+                break
+            end = line.end()
+            objects, size, remainder, of_set, name, whole, first, second = line.groups()
+            if whole:
+                self._add_joint(int(whole), int(first), int(second))
+                continue
             number = EMPTY if of_set == b"-" else int(of_set)
-            row = self._numbers.get((name, remainder))
+            row = numbers.get((name, remainder))
             if row is None:
                 row = self._added(name, remainder)
-            self._by_set.setdefault(number, []).append(len(self._lines))
-            self._lines.extend((number, row, int(objects), int(size)))
-            return True
-        joint = JOINT.fullmatch(line)
-        if joint:
-            whole, first, second = map(int, joint.groups())
-            self._parts[whole] = first, second
-            for part in (first, second):
-                self._upper.setdefault(part, []).append(whole)
-        return bool(joint)
+            by_set.setdefault(number, []).append(len(lines))
+            lines.extend((number, row, int(objects), int(size)))
+        return end == len(text)
+
+    def _add_joint(self, whole: int, first: int, second: int) -> None:
+        """Adds what a set is made of."""
+        self._parts[whole] = first, second
+        for part in (first, second):
+            self._upper.setdefault(part, []).append(whole)
 
     def _added(self, name: bytes, remainder: bytes) -> int:
         """Returns the number of a part of a row that a line had not before: that of another one if it has no parts."""
@@ -160,10 +167,5 @@ def table_bound(length: int, labels: int) -> LineBound:
 def read_table(text: bytes) -> Optional[HeldTable]:
     """Reads a table, which may be empty. Returns None if `text` is none: if it has another line, or does not end with a
     line."""
-    table, at, find = HeldTable(), 0, text.find
-    while at < len(text):
-        end = find(b"\n", at)
-        if end < 0 or not table.add(text[at:end]):
-            return None
-        at = end + 1
-    return table
+    table = HeldTable()
+    return table if table.add(text) else None
