@@ -4,6 +4,8 @@ from __future__ import annotations
 
 import ast
 import pathlib
+import subprocess
+import sys
 import unittest
 from collections import defaultdict
 from collections.abc import Iterator
@@ -58,6 +60,12 @@ class SourcesTest(unittest.TestCase):
                 found += 1
                 self.assertFalse(name.startswith(("heap_tools.commands", "tests")), f"{path} imports {name}")
         self.assertGreater(found, 100)
+
+    def test_pages_are_loaded_late(self) -> None:
+        """Without a page, `leaks` does not load what pages are made of."""
+        names = "import heap_tools.commands.leaks, sys; print(*sys.modules)"
+        loaded = subprocess.run([sys.executable, "-B", "-c", names], cwd=TOP / "tools", capture_output=True, check=True)
+        self.assertEqual([it for it in loaded.stdout.decode().split() if it.startswith("heap_tools.page")], [])
 
     def test_each_name_has_one_home(self) -> None:
         """No two modules define the same name, but for what each command has."""

@@ -38,9 +38,6 @@ from heap_tools.leak_notes import (
 from heap_tools.leak_options import Bounds, Options
 from heap_tools.one_dump import AT_LEAST, HeapAnswer, question_of
 from heap_tools.one_dump_notes import notes_of_one, sentences_of
-from heap_tools.one_dump_page import page_of_one
-from heap_tools.page import Making
-from heap_tools.page_content import content_of, making_of, require_place, write_page
 from heap_tools.probe import GrowthProbe
 from heap_tools.reports import Unit
 from heap_tools.shown_path import line_with_path
@@ -166,10 +163,6 @@ class Output(NamedTuple):
         """Returns what it has cost to try so many fields."""
         return Cost(fields, self.heapmark.runs, self.heapmark.retained.runs, time.time() - self.began)
 
-    def making(self) -> Making:
-        """Returns what the page says of how its figures were found."""
-        return making_of(self.words, self.heapmark, self.began)
-
 
 def printed(lines: Sequence[Line], unit: Unit) -> str:
     """Returns the lines as they are printed."""
@@ -268,7 +261,11 @@ def print_growth(paths: Sequence[str], options: Options, output: Output) -> None
     else:
         write(above + printed(answer.lines, comparison.probe.unit))
     if output.page is not None:
-        write_page(output.page, content_of(comparison, answer, notes, output.making(), options))
+        # Not loaded without a page: what pages are made of takes nearly as long to load as all else.
+        from heap_tools.page_content import content_of, making_of, write_page
+
+        making = making_of(output.words, output.heapmark, output.began)
+        write_page(output.page, content_of(comparison, answer, notes, making, options))
     for sentence in sentences:
         say(f"leaks: {sentence}")
 
@@ -296,7 +293,11 @@ def print_one(path: str, options: Options, output: Output) -> None:
     else:
         write(printed_of_one(answer))
     if output.page is not None:
-        write_page(output.page, page_of_one(answer, notes, output.making(), options))
+        from heap_tools.one_dump_page import page_of_one
+        from heap_tools.page_content import making_of, write_page
+
+        making = making_of(output.words, output.heapmark, output.began)
+        write_page(output.page, page_of_one(answer, notes, making, options))
     for sentence in sentences:
         say(f"leaks: {sentence}")
 
@@ -316,6 +317,8 @@ def main(words: Sequence[str]) -> int:
     if options.more_than is not None and not options.after:
         raise Fault(WRONG_USE, "--more-than: one dump shows no growth: a later one does")
     if options.html is not None:
+        from heap_tools.page_content import require_place
+
         require_place(options.html)
     unit, flags = Unit.OBJECTS if options.objects else Unit.BYTES, (options.weak, not options.no_values)
     asked = Options(options.of_class, unit, bounds_of(options), *flags, options.dump_bytes, options.more_than)
