@@ -84,9 +84,11 @@ class HeldTable:
         return number
 
     def sets_with(self, label: int) -> FrozenSet[int]:
-        """Returns the sets of lines that have a label."""
+        """Returns the sets of lines that have a label. One to which the text of labels gave no place has none: the
+        table may have its number for a set of several, since it knows only of labels below that."""
         if label not in self._known:
-            found, waiting = {label}, [label]
+            found, waiting = set(), [label] * (label not in self._parts)
+            found.update(waiting)
             while waiting:
                 more = [each for each in self._upper.get(waiting.pop(), ()) if each not in found]
                 found.update(more)

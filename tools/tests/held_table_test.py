@@ -81,6 +81,12 @@ class TableTest(unittest.TestCase):
         self.assertEqual(table.total(7, {odd: (16, 1)}), 0)
         self.assertEqual(set(table.every_set()), {EMPTY, 2, 4, 6})
 
+    def test_label_without_place(self) -> None:
+        """A label that has no place in the text holds nothing, whatever set the table has under its number."""
+        table = read_table(TABLE)
+        assert table
+        self.assertEqual([sorted(table.sets_with(label)) for label in range(7)], [[4, 6], [4, 6], [2, 6], [], [], [], []])
+
     def test_wrong(self) -> None:
         """Any other text is none."""
         wrong = [b"1 2   2  3\n", b"no", b"1 2   2  3  A", TABLE[:-1], TABLE + b"x\n", b"set 3 = 4\n"]
