@@ -28,7 +28,8 @@ def find_below(search: Search, upper: Optional[Retained], uses: FieldUses) -> Li
         return []
     needed = needed_below(search, upper)
     lower = joint_below(search, upper) if upper else []
-    needed += [lower] if len(lower) > 1 and lead_apart(probe, lower, uses) else []
+    is_enough = len(lower) > 1 and probe.share(lower) >= search.at_least
+    needed += [lower] if is_enough and lead_apart(probe, lower, uses) else []
     known = {held.key for held in search.found}
     found = {key_of(each): by_amount(probe, each) for each in needed if key_of(each) not in known}
     return [probe.retained(each)._replace(candidates=each) for each in found.values()]

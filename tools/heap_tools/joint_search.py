@@ -60,9 +60,15 @@ class JointSearch:
             joints = self._minimal(blocks)
             if joints and len(blocks) == len(left):
                 every = [[left[number] for number in joint.blocks] for joint in joints]
-                return min(zip(every, joints), key=lambda pair: self.preference(*pair))[0]
+                return self._related(min(zip(every, joints), key=lambda pair: self.preference(*pair))[0])
             left = [each for number in kept(joints) for each in blocks[number]]
         return []
+
+    def _related(self, group: Several) -> List[Candidate]:
+        """Returns a group without threads that hold mostly alone what they add to it."""
+        of, gain = self.probe.unit.of, self.probe.gain
+        adds = {each.key: of(gain(group)) - of(gain([it for it in group if it is not each])) for each in group}
+        return [it for it in group if not it.is_thread or of(gain([it])) < MOST * adds[it.key] or len(group) == 1]
 
     def preference(self, group: Several, joint: Joint) -> Tuple[int, ...]:
         """Returns what the best ones are the smallest by: how many are not own, of how many classes they are, how many
@@ -70,12 +76,16 @@ class JointSearch:
         return sum(not each.is_own for each in group), len({each.owner for each in group}), len(group), joint.objects
 
     def _minimal(self, blocks: Sequence[Several]) -> List[Joint]:
-        """Returns the fewest blocks that gained enough, also beside what any others did."""
+        """Returns the fewest blocks that gained enough, also beside what any others did, and of which each is needed:
+        without it they gained less."""
         found: List[Joint] = []
         every = self._joints(blocks)
-        least = max(self.least, self.part * max(joint.gain for joint in every))
+        gains = {joint.blocks: joint.gain for joint in every}
+        least = max(self.least, self.part * max(gains.values()))
         for joint in every:
-            if joint.gain >= least and not any(set(other.blocks) < set(joint.blocks) for other in found):
+            parts = (part for count in range(1, len(joint.blocks)) for part in combinations(joint.blocks, count))
+            is_needed = all(gains[part] < min(least, NEARLY * joint.gain) for part in parts)
+            if joint.gain >= least and is_needed:
                 found.append(joint)
         return found
 
@@ -134,10 +144,11 @@ def joint_answers(
     probe: Probe, at_least: float, explained: Sequence[Several], candidates: Several, known: Several
 ) -> Sequence[Several]:
     """Returns what gained `at_least` percent of the growth together that none of `explained` holds: of the fields of a
-    class those that are needed, or all; if these leave as much, those of `candidates` that hold enough only together.
+    class those that are needed; if these leave as much, those of `candidates` that hold enough only together.
     They are some of `known`: what all of these gained only together was asked before, and if it is less, nothing is
     asked."""
-    found = [needed_of(probe, at_least, it) or it for it in kin_with(probe, at_least, explained, candidates)]
+    kin = kin_with(probe, at_least, explained, candidates)
+    found = [needed_of(probe, at_least, each) or with_effect(probe, each) for each in kin]
     least = at_least * probe.unit.of(probe.growth) / 100
     if probe.unit.of(probe.gain_beside(known, [*alone(known), *found])) >= least:
         found += [each for each in [JointSearch(probe, at_least, candidates).find()] if each]
@@ -165,6 +176,13 @@ def needed_of(probe: Probe, at_least: float, group: Several) -> Several:
         return []
     adds = [probe.share(needed) - probe.share(rest) for rest in rests]
     return needed if all(probe.share([it]) < MOST * more for it, more in zip(needed, adds)) else []
+
+
+def with_effect(probe: Probe, group: Several) -> Several:
+    """Returns those of a group without which it gained less: what the others lead to is held elsewhere, too."""
+    rests, of = [[it for it in group if it is not each] for each in group], probe.unit.of
+    probe.ask([group, *rests])
+    return [each for each, rest in zip(group, rests) if of(probe.gain(rest)) < of(probe.gain(group))]
 
 
 def cut(candidates: Several) -> List[Several]:

@@ -21,7 +21,7 @@ from heap_tools.search import Search
 class Answer(NamedTuple):
     """The lines, how many more there are if all are shown, what was looked for first, how much there is of what is
     asked for, of which shares are, and how much of that no line holds. `lasts`: something that lasts holds what the
-    first line does, not only new objects."""
+    first line does, not only new objects. `is_above`: what is above a line holds as much of the rest as a line must."""
 
     lines: List[Line]
     hidden: int
@@ -29,6 +29,7 @@ class Answer(NamedTuple):
     whole: Amount
     left: Amount
     lasts: bool
+    is_above: bool = False
 
     @property
     def left_percent(self) -> float:
@@ -76,17 +77,19 @@ def one_by_one(
         probe = calls.without(found.cut)
         if not found.is_little(probe.growth):
             found.add(found.ranked(probe, calls.between), calls.between)
-    return Answer(found.lines, 0, search, whole, found.left, first.is_lasting)
+    return Answer(found.lines, 0, search, whole, found.left, first.is_lasting, found.is_above)
 
 
 class LinesInTurn:
     """Lines of which each holds nothing that those before it do. `asked` is what asks first, `of` what shares are of,
-    and `left` how much of it no line holds. `cut` is what the lines are about."""
+    and `left` how much of it no line holds. `cut` is what the lines are about. `is_above`: of what they leave, what is
+    above one of them holds as much as a line must."""
 
     def __init__(self, asked: Probe, bounds: Bounds, of: Amount) -> None:
         self.asked, self.bounds, self.of, self.left = asked, bounds, of, of
         self.lines: List[Line] = []
         self.cut: List[Candidate] = []
+        self.is_above = False
 
     @property
     def is_done(self) -> bool:
@@ -112,6 +115,7 @@ class LinesInTurn:
         """Returns what holds as much as a line must of what the lines leave, for which `probe` asks."""
         search = searched(probe, self.bounds.others * probe.unit.of(self.of) / probe.unit.of(probe.growth))
         above = frozenset(each.key for line in self.lines for each in line.above)
+        self.is_above = any(held.key in above for held in search.found)
         return ranked(search, between, self.cut, above)
 
 

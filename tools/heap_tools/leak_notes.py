@@ -121,4 +121,6 @@ def rest_words(answer: Answer, bounds: Bounds, whole: str) -> List[str]:
     left = f"{answer.left_percent:.0f}% of {whole} are in no line"
     if len(answer.lines) == bounds.top:
         return [f"{left}: see --top"]
+    if answer.is_above:
+        return [f"{left}: what is above a line holds {bounds.others}% or more: see --all"]
     return [f"{left}: nothing else that lasts holds {bounds.others}%"]

@@ -177,6 +177,25 @@ class BelowTest(unittest.TestCase):
         line = answer_of(growth, Bounds()).lines[0]
         self.assertEqual(line.path(), f"{above} > together shop/Session.temporary, shop/Store.tables")
 
+    def test_too_little_below(self) -> None:
+        """Fields below a line that gained enough only together, but less in all since what they held alone shrank, are
+        no line."""
+        both = []
+        for is_later in (False, True):
+            dump = DumpWriter(time=60_000 * (1 + is_later))
+            dump.of_class(1, "[Ljava/lang/Object;")
+            dump.of_class(2, "shop/Store", {"ONLY": 100}, fields=["first", "second", "third"])
+            own, shared = range(1000, 1000 + (20, 80)[not is_later]), range(2000, 2000 + 40 * is_later)
+            dump.instance(100, 2, 101, 102, 103)
+            dump.array(101, 1, *own, *shared)
+            dump.array(102, 1, *shared)
+            dump.values(103, BYTE, bytes(90_000 * is_later))
+            for each in (*own, *shared):
+                dump.values(each, BYTE, bytes(1000))
+            dump.root(2)
+            both.append(dump)
+        self.assertEqual(self.paths(*both), ["static shop/Store.ONLY > shop/Store.third", "static shop/Store.ONLY"])
+
     def test_collection(self) -> None:
         """The fields of a collection are not tried: that it holds what is in it says nothing."""
         paths = self.paths(*(Clients([count], names=("shop/PartList", "shop/ClientMap")) for count in (70, 300)))

@@ -85,7 +85,9 @@ class TableTest(unittest.TestCase):
         """A label that has no place in the text holds nothing, whatever set the table has under its number."""
         table = read_table(TABLE)
         assert table
-        self.assertEqual([sorted(table.sets_with(label)) for label in range(7)], [[4, 6], [4, 6], [2, 6], [], [], [], []])
+        self.assertEqual(
+            [sorted(table.sets_with(label)) for label in range(7)], [[4, 6], [4, 6], [2, 6], [], [], [], []]
+        )
 
     def test_wrong(self) -> None:
         """Any other text is none."""

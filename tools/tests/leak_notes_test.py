@@ -73,6 +73,9 @@ class LeakNotesTest(unittest.TestCase):
         ):
             answer = Answer([OWN] * count, hidden, search, Amount(9, 90), Amount(0, left), True)
             self.assertEqual(rest_words(answer, of, more), said)
+        answer = Answer([OWN], 0, search, Amount(9, 90), Amount(0, 9), True, is_above=True)
+        said = ["10% of 18 bytes are in no line: what is above a line holds 10% or more: see --all"]
+        self.assertEqual(rest_words(answer, bounds, more), said)
 
     def test_nothing_lasts(self) -> None:
         """The sentence says which part of the growth something that lasts should have."""

@@ -5,7 +5,7 @@ from unittest import mock
 
 from heap_tools.candidates import FIELD, STATIC, Candidate, Key
 from heap_tools.dump_side import DumpSide, ask
-from heap_tools.held_table import HeldTable
+from heap_tools.held_table import HeldTable, read_table
 from heap_tools.label_text import Place
 from heap_tools.probe import GrowthProbe
 from heap_tools.reports import Amount, Report, Unit
@@ -39,8 +39,8 @@ class ToldProgram:
             holding = [label for label, group in enumerate(groups) if any(group.issuperset(way) for way in ways)]
             lines += self._line(holding, size, len(groups) * (number + 1) + number)
         lines.append(table_line(self.others[dump.path], self.others[dump.path], "-", OTHER))
-        table = HeldTable()
-        assert all(table.add(f"{line}".encode()) for line in lines), lines
+        table = read_table("".join(f"{line}\n" for line in lines).encode())
+        assert table, lines
         return table
 
     def _line(self, holding: List[int], size: int, first: int) -> List[str]:
