@@ -3,9 +3,15 @@ reference from all of them."""
 
 import collections
 import struct
-from typing import AbstractSet, Callable, Counter, Dict, Iterable, Iterator, List, NamedTuple, Sequence, Set, Tuple
+from array import array
+from bisect import bisect_right
+from itertools import accumulate, chain, compress, repeat
+from typing import AbstractSet, Callable, Collection, Counter, Dict, Iterable, Iterator, List, NamedTuple
+from typing import Sequence, Set, Tuple
+from weakref import WeakKeyDictionary
 
 from heap_tools import hprof_format as hprof
+from heap_tools.heap_dump import HeapDump
 from heap_tools.heap_objects import HeapObjects
 from heap_tools.object_places import SomeOfClass, shared_by_class
 
@@ -16,7 +22,7 @@ MOST_OWNERS = 12
 #: what refers to all of them has to fit into memory.
 MOST_AHEAD = 20_000
 #: Reads the references of an instance: from the bytes of the dump, and where it begins.
-Reader = Callable[[bytes, int], Tuple[int, ...]]
+Reader = Callable[[bytes, int], Collection[int]]
 #: What those have in common that refer to an object from one class, by one field: the tag of their records, the name of
 #: the class, and that of the field.
 ReferrerKind = Tuple[int, str, str]
@@ -31,6 +37,20 @@ class Referrer(NamedTuple):
     field: str
 
 
+class References(NamedTuple):
+    """References of some objects: where the objects are, how many references those up to each have, and the identifiers
+    of all that they refer to, one object's after the other's."""
+
+    places: "array[int]"
+    ends: "array[int]"
+    targets: "array[int]"
+
+
+#: The references of those dumps that are still read: eight bytes for each, and as many for each object that has some. A
+#: search for what refers to others then takes a small part of the time that it takes to read them.
+REFERENCES: "WeakKeyDictionary[HeapDump, List[References]]" = WeakKeyDictionary()
+
+
 class Referrers:
     """What refers to objects in the dump of `objects`. Of many objects of one class that refer to another one by one
     field, `MOST_OWNERS` + 1 are known: so it is seen that they are more."""
@@ -41,7 +61,6 @@ class Referrers:
         self.searches = 0
         self._known: Dict[int, List[Referrer]] = {}
         self._ahead: Set[int] = set()
-        self._readers: Dict[int, Reader] = {}
 
     def of(self, identifier: int) -> Sequence[Referrer]:
         """Returns what refers to an object that was looked up, in the order of the file."""
@@ -68,20 +87,33 @@ class Referrers:
         """Returns what those have in common that refer to an object from one class, by one field."""
         return self.dump.bytes[each.place], self.objects.class_name(each.place), each.field
 
-    def _found(self, wanted: AbstractSet[int]) -> Iterator[Referrer]:
-        """Yields what refers to `wanted`: of many from one class by one field the first."""
+    def _found(self, wanted: AbstractSet[int]) -> List[Referrer]:
+        """Returns what refers to `wanted`: of many from one class by one field the first."""
         self.searches += 1
-        self._readers = self._readers or dict(self._readers_by_class())
-        data, apart = self.dump.bytes, frozenset(wanted).isdisjoint
+        return self._few(each for some in self._references() for each in self._referrers_in(some, wanted))
 
-        def found_in(parts: List[SomeOfClass]) -> List[Referrer]:
-            found: List[int] = []
-            for class_id, places in parts:
-                read = self._readers[class_id] if class_id else self._read_other
-                found += [at for at in places if not apart(read(data, at))]
-            return self._few(each for at in found for each in self._referrers_at(at, wanted))
+    def _references(self) -> List[References]:
+        """Returns all references of the dump. Reads them once for each dump."""
+        known = REFERENCES.get(self.dump)
+        if known is None:
+            readers, data = dict(self._readers_by_class()), self.dump.bytes
 
-        yield from self._few(shared_by_class(self.dump, {0, *self._readers}, found_in))
+            def read_in(parts: List[SomeOfClass]) -> List[References]:
+                found = []
+                for class_id, places in parts:
+                    rows = list(map(readers.get(class_id, self._read_other), repeat(data), places))
+                    ends = array("I", accumulate(map(len, rows)))
+                    found.append(References(places, ends, array("Q", chain.from_iterable(rows))))
+                return found
+
+            known = REFERENCES[self.dump] = list(shared_by_class(self.dump, {0, *readers}, read_in))
+        return known
+
+    def _referrers_in(self, some: References, wanted: AbstractSet[int]) -> Iterator[Referrer]:
+        """Yields the references of some objects to some of `wanted`."""
+        found = compress(range(len(some.targets)), map(wanted.__contains__, some.targets))
+        for number in dict.fromkeys(bisect_right(some.ends, each) for each in found):
+            yield from self._referrers_at(some.places[number], wanted)
 
     def _few(self, referrers: Iterable[Referrer]) -> List[Referrer]:
         """Returns the first of those that refer to one object from one class by one field."""
@@ -105,7 +137,7 @@ class Referrers:
                 if field.kind == hprof.OBJECT and self.dump.id(at + place) in wanted:
                     yield Referrer(at, self.dump.id(at + place), field.name)
 
-    def _read_other(self, _: bytes, at: int) -> Iterable[int]:
+    def _read_other(self, _: bytes, at: int) -> Collection[int]:
         """Returns the references of the array or the class dump at `at`."""
         is_array = self.dump.bytes[at] == hprof.OBJECT_ARRAY
         return self.objects.elements_of(at) if is_array else self._statics(at).values()
