@@ -17,8 +17,8 @@ AT_ONCE, FEWEST_TIMES = 20_000, 8
 
 #: Objects of one class, by that and their places.
 SomeOfClass = Tuple[int, "array[int]"]
-#: Where the objects of those dumps are that are still read: 16 bytes for each, of dumps above 4 GiB 24. A question about
-#: some fields or some objects then takes a small part of a walk.
+#: Where the objects of those dumps are that are still read: 16 bytes for each, above 4 GiB 24. A question about some
+#: fields or some objects then takes a small part of a walk.
 PLACES: "WeakKeyDictionary[HeapDump, PlacedObjects]" = WeakKeyDictionary()
 
 

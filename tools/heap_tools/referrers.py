@@ -48,7 +48,7 @@ class References(NamedTuple):
 
 #: The references of those dumps that are still read: eight bytes for each, and as many for each object that has some. A
 #: search for what refers to others then takes a small part of the time that it takes to read them.
-REFERENCES: "WeakKeyDictionary[HeapDump, List[References]]" = WeakKeyDictionary()
+EVERY_REFERENCE: "WeakKeyDictionary[HeapDump, List[References]]" = WeakKeyDictionary()
 
 
 class Referrers:
@@ -94,7 +94,7 @@ class Referrers:
 
     def _references(self) -> List[References]:
         """Returns all references of the dump. Reads them once for each dump."""
-        known = REFERENCES.get(self.dump)
+        known = EVERY_REFERENCE.get(self.dump)
         if known is None:
             readers, data = dict(self._readers_by_class()), self.dump.bytes
 
@@ -106,7 +106,7 @@ class Referrers:
                     found.append(References(places, ends, array("Q", chain.from_iterable(rows))))
                 return found
 
-            known = REFERENCES[self.dump] = list(shared_by_class(self.dump, {0, *readers}, read_in))
+            known = EVERY_REFERENCE[self.dump] = list(shared_by_class(self.dump, {0, *readers}, read_in))
         return known
 
     def _referrers_in(self, some: References, wanted: AbstractSet[int]) -> Iterator[Referrer]:
