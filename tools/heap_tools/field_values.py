@@ -8,7 +8,7 @@ from typing import DefaultDict, Dict, Iterable, Iterator, List, Set, Tuple
 
 from heap_tools import hprof_format as hprof
 from heap_tools.heap_objects import FieldValue, HeapObjects
-from heap_tools.object_places import places_of_objects
+from heap_tools.object_places import places_by_class
 
 #: From how many different identifiers in a field on no more are looked for: all that is asked is whether it is one.
 SEVERAL = 2
@@ -53,7 +53,7 @@ def values_by_field(objects: HeapObjects, fields: Iterable[str], most: int, most
     """Returns what instances have in each of `fields`, names such as `java/util/HashMap.table`: at most `most` values,
     and at most `most_null` instances in which it is null. Of a field that has more values, instances in which it is
     null may be missing."""
-    dump, placed = objects.dump, places_of_objects(objects.dump).by_class
+    dump, placed = objects.dump, places_by_class(objects.dump)
     every = {name: FieldValues(most, most_null) for name in fields}
     uses: DefaultDict[str, List[Iterator[Tuple[int, int]]]] = defaultdict(list)
     for class_id, of_class in objects.places_in_instances(every, hprof.OBJECT).items():

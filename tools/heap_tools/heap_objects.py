@@ -9,7 +9,7 @@ from heap_tools import hprof_format as hprof
 from heap_tools.class_names import CLASSES, PRIMITIVES, family
 from heap_tools.heap_dump import Field, HeapDump
 from heap_tools.label_text import Place, in_object
-from heap_tools.object_places import SomeOfClass, chosen_in, places_of_objects, shared_by_class
+from heap_tools.object_places import SomeOfClass, chosen_objects, shared_by_class
 from heap_tools.span_order import order_of_segments
 
 #: A field of the instances of a class: the class that declares it, where its value is, counted from the begin of an
@@ -68,13 +68,13 @@ class HeapObjects:
         """Returns where the objects with these identifiers are, in the order of the file. Looks into the segments in
         which they must be if identifiers ascend, and into the others only for what is not there."""
         wanted = {each for each in identifiers if each} - self.dump.classes.keys()
-        order, parts = order_of_segments(self.dump), places_of_objects(self.dump).parts
+        order, segments = order_of_segments(self.dump), self.dump.segments
         near = order.around(wanted) if order.is_ascending else {}
         found: Dict[int, int] = {}
-        for number in [*near, *(each for each in range(len(parts)) if each not in near)]:
-            if len(found) == len(wanted):
-                break
-            found.update(chosen_in(parts[number], wanted))
+        for are_near in (True, False):
+            if len(found) < len(wanted):
+                some = [each for number, each in enumerate(segments) if (number in near) is are_near]
+                found.update(chosen_objects(self.dump, some, wanted))
         return dict(sorted(found.items(), key=lambda each: each[1]))
 
     def class_of(self, at: int) -> int:

@@ -3,7 +3,7 @@
 import struct
 from array import array as packed
 from collections import defaultdict
-from typing import Callable, DefaultDict, Dict, Iterable, Iterator, List, NamedTuple, Optional, Sequence, Tuple
+from typing import Callable, DefaultDict, Dict, Iterable, Iterator, List, Optional, Sequence, Tuple
 
 from heap_tools import hprof_format as hprof
 from heap_tools.heap_dump import HeapDump, Span, UnknownTag
@@ -19,14 +19,6 @@ LONG_RECORD = 4 << 20
 PART, PROOF = 1 << 20, 100
 #: The class whose instances show where a record can be cut: any dump has many of them.
 FREQUENT = "java/lang/String"
-
-
-class PlacedObjects(NamedTuple):
-    """Where the objects in some parts of the file are, and where in its order instances are, by their class; by 0,
-    arrays of references, but empty ones, and class dumps."""
-
-    parts: List[PlacedPart]
-    by_class: Dict[int, "packed[int]"]
 
 
 def heap_objects(dump: HeapDump, spans: Iterable[Span]) -> Iterator[HeapObject]:
@@ -53,29 +45,52 @@ def heap_objects(dump: HeapDump, spans: Iterable[Span]) -> Iterator[HeapObject]:
                 at = _end_of_other(dump, tag, at)
 
 
-def placed_objects(dump: HeapDump, spans: Iterable[Span]) -> PlacedObjects:
-    """Returns where in some parts of the file objects are. This is `heap_objects` once more, since a walk that yields
-    every object takes twice the time."""
+def placed_part(dump: HeapDump, span: Span) -> PlacedPart:
+    """Returns the identifiers of the objects in a part of the file, and where they are. This is `heap_objects` once
+    more, since a walk that yields every object takes twice the time."""
+    data, size, sizes, (at, end) = dump.bytes, dump.id_size, dump.value_sizes, span
+    instance, array, primitive = _heads(size)
+    head, identifiers, places = 9 + 2 * size, packed("Q"), packed("Q")
+    while at < end:
+        tag, begin = data[at], at
+        if tag == hprof.INSTANCE:
+            identifier, _, length = instance(data, at + 1)
+            at += head + length
+        elif tag == hprof.PRIMITIVE_ARRAY:
+            identifier, length, kind = primitive(data, at + 1)
+            at += 10 + size + length * sizes[kind]
+        elif tag == hprof.OBJECT_ARRAY:
+            identifier, length, _ = array(data, at + 1)
+            at += head + length * size
+        else:
+            at = _end_of_other(dump, tag, at)
+            continue
+        identifiers.append(identifier)
+        places.append(begin)
+    return identifiers, places
+
+
+def placed_objects(dump: HeapDump, spans: Iterable[Span]) -> Dict[int, "packed[int]"]:
+    """Returns where in some parts of the file objects are, in its order: instances by their class; by 0, arrays of
+    references, but empty ones, and class dumps. This is the third walk, since a function called for each object would
+    take twice the time."""
     data, size, sizes = dump.bytes, dump.id_size, dump.value_sizes
     instance, array, primitive = _heads(size)
     head, number = 9 + 2 * size, "I" if dump.size < 1 << 32 else "Q"
-    parts: List[PlacedPart] = []
-    by_class: DefaultDict[int, "packed[int]"] = defaultdict(lambda: packed(number))
-    others = by_class[0]
+    found: DefaultDict[int, "packed[int]"] = defaultdict(lambda: packed(number))
+    others = found[0]
     for at, end in spans:
-        parts.append((packed("Q"), packed(number)))
-        add_identifier, add_place = (column.append for column in parts[-1])
         while at < end:
-            tag, begin = data[at], at
+            tag = data[at]
             if tag == hprof.INSTANCE:
-                identifier, class_id, length = instance(data, at + 1)
-                by_class[class_id].append(at)
+                _, class_id, length = instance(data, at + 1)
+                found[class_id].append(at)
                 at += head + length
             elif tag == hprof.PRIMITIVE_ARRAY:
-                identifier, length, kind = primitive(data, at + 1)
+                _, length, kind = primitive(data, at + 1)
                 at += 10 + size + length * sizes[kind]
             elif tag == hprof.OBJECT_ARRAY:
-                identifier, length, _ = array(data, at + 1)
+                length = array(data, at + 1)[1]
                 if length:
                     others.append(at)
                 at += head + length * size
@@ -83,10 +98,7 @@ def placed_objects(dump: HeapDump, spans: Iterable[Span]) -> PlacedObjects:
                 if tag == hprof.CLASS_DUMP:
                     others.append(at)
                 at = _end_of_other(dump, tag, at)
-                continue
-            add_identifier(identifier)
-            add_place(begin)
-    return PlacedObjects(parts, dict(by_class))
+    return dict(found)
 
 
 def _heads(size: int) -> List[Callable[..., Tuple[int, ...]]]:

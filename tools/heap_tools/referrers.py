@@ -12,7 +12,7 @@ from weakref import WeakKeyDictionary
 
 from heap_tools import hprof_format as hprof
 from heap_tools.heap_dump import HeapDump
-from heap_tools.heap_objects import HeapObjects
+from heap_tools.heap_objects import HeapObjects, PlacedField
 from heap_tools.object_places import SomeOfClass, shared_by_class
 
 #: The largest number of objects of one class that name what all of them refer to by one field: what more refer to is
@@ -21,8 +21,6 @@ MOST_OWNERS = 12
 #: From how many objects a search goes up at most that nobody has asked for yet: as many take no longer than one, but
 #: what refers to all of them has to fit into memory.
 MOST_AHEAD = 20_000
-#: Reads the references of an instance: from the bytes of the dump, and where it begins.
-Reader = Callable[[bytes, int], Collection[int]]
 #: What those have in common that refer to an object from one class, by one field: the tag of their records, the name of
 #: the class, and that of the field.
 ReferrerKind = Tuple[int, str, str]
@@ -38,12 +36,26 @@ class Referrer(NamedTuple):
 
 
 class References(NamedTuple):
-    """References of some objects: where the objects are, how many references those up to each have, and the identifiers
-    of all that they refer to, one object's after the other's."""
+    """References of some objects: where the objects are, how many references those up to each have, the identifiers of
+    all that they refer to, one object's after the other's, and the names of the fields, which repeat themselves."""
 
     places: "array[int]"
     ends: "array[int]"
     targets: "array[int]"
+    names: Sequence[str]
+
+    @classmethod
+    def of(cls, places: Iterable[int], targets: Iterable[Collection[int]], names: Sequence[str]) -> "References":
+        """Returns the references of the objects at `places`, given those of each."""
+        rows = list(targets)
+        ends, every = array("I", accumulate(map(len, rows))), array("Q", chain.from_iterable(rows))
+        return cls(array("Q", places), ends, every, names)
+
+    def to(self, wanted: AbstractSet[int]) -> Iterator[Referrer]:
+        """Yields the references to some of `wanted`: an array refers once to each."""
+        numbers = compress(range(len(self.targets)), map(wanted.__contains__, self.targets))
+        found = ((bisect_right(self.ends, each), self.targets[each], each % len(self.names)) for each in numbers)
+        yield from (Referrer(self.places[at], target, self.names[name]) for at, target, name in dict.fromkeys(found))
 
 
 #: The references of those dumps that are still read: eight bytes for each, and as many for each object that has some. A
@@ -90,30 +102,14 @@ class Referrers:
     def _found(self, wanted: AbstractSet[int]) -> List[Referrer]:
         """Returns what refers to `wanted`: of many from one class by one field the first."""
         self.searches += 1
-        return self._few(each for some in self._references() for each in self._referrers_in(some, wanted))
-
-    def _references(self) -> List[References]:
-        """Returns all references of the dump. Reads them once for each dump."""
-        known = EVERY_REFERENCE.get(self.dump)
-        if known is None:
-            readers, data = dict(self._readers_by_class()), self.dump.bytes
+        if self.dump not in EVERY_REFERENCE:
+            classes = {0, *(each for each in self.dump.classes if self._fields(each))}
 
             def read_in(parts: List[SomeOfClass]) -> List[References]:
-                found = []
-                for class_id, places in parts:
-                    rows = list(map(readers.get(class_id, self._read_other), repeat(data), places))
-                    ends = array("I", accumulate(map(len, rows)))
-                    found.append(References(places, ends, array("Q", chain.from_iterable(rows))))
-                return found
+                return [each for class_id, places in parts for each in self._read(class_id, places)]
 
-            known = EVERY_REFERENCE[self.dump] = list(shared_by_class(self.dump, {0, *readers}, read_in))
-        return known
-
-    def _referrers_in(self, some: References, wanted: AbstractSet[int]) -> Iterator[Referrer]:
-        """Yields the references of some objects to some of `wanted`."""
-        found = compress(range(len(some.targets)), map(wanted.__contains__, some.targets))
-        for number in dict.fromkeys(bisect_right(some.ends, each) for each in found):
-            yield from self._referrers_at(some.places[number], wanted)
+            EVERY_REFERENCE[self.dump] = list(shared_by_class(self.dump, classes, read_in))
+        return self._few(each for some in EVERY_REFERENCE[self.dump] for each in some.to(wanted))
 
     def _few(self, referrers: Iterable[Referrer]) -> List[Referrer]:
         """Returns the first of those that refer to one object from one class by one field."""
@@ -126,32 +122,27 @@ class Referrers:
                 found.append(each)
         return found
 
-    def _referrers_at(self, at: int, wanted: AbstractSet[int]) -> Iterator[Referrer]:
-        """Yields the references of the object at `at` to some of `wanted`: an array refers once to each."""
-        if self.dump.bytes[at] == hprof.OBJECT_ARRAY:
-            yield from (Referrer(at, each, "") for each in wanted & set(self.objects.elements_of(at)))
-        elif self.dump.bytes[at] == hprof.CLASS_DUMP:
-            yield from (Referrer(at, each, name) for name, each in self._statics(at).items() if each in wanted)
-        else:
-            for _, place, field in self.objects.fields_of(self.objects.class_of(at)):
-                if field.kind == hprof.OBJECT and self.dump.id(at + place) in wanted:
-                    yield Referrer(at, self.dump.id(at + place), field.name)
+    def _read(self, class_id: int, places: "array[int]") -> Iterator[References]:
+        """Yields the references of some instances of a class, or with 0 those of arrays and of class dumps."""
+        dump, fields = self.dump, self._fields(class_id)
+        if class_id:
+            read = self._reader([at for _, at, _ in fields])
+            yield References.of(places, map(read, repeat(dump.bytes), places), [it.name for _, _, it in fields])
+            return
+        arrays = [at for at in places if dump.bytes[at] == hprof.OBJECT_ARRAY]
+        yield References.of(arrays, map(self.objects.elements_of, arrays), [""])
+        classes = [at for at in places if dump.bytes[at] == hprof.CLASS_DUMP]
+        every = [dump.classes[dump.id(at + 1)].fields for at in classes]
+        statics = [[it for it in of_class if it.is_static and it.kind == hprof.OBJECT] for of_class in every]
+        ids = [[dump.id(it.place + 1) for it in of_class] for of_class in statics]
+        yield References.of(classes, ids, [it.name for of_class in statics for it in of_class])
 
-    def _read_other(self, _: bytes, at: int) -> Collection[int]:
-        """Returns the references of the array or the class dump at `at`."""
-        is_array = self.dump.bytes[at] == hprof.OBJECT_ARRAY
-        return self.objects.elements_of(at) if is_array else self._statics(at).values()
+    def _fields(self, class_id: int) -> List[PlacedField]:
+        """Returns the fields of the instances of a class that are references."""
+        return [each for each in self.objects.fields_of(class_id) if each[2].kind == hprof.OBJECT]
 
-    def _statics(self, at: int) -> Dict[str, int]:
-        """Returns the identifiers in the static fields of the class dump at `at`, by the name of the field."""
-        fields = self.dump.classes[self.dump.id(at + 1)].fields
-        return {it.name: self.dump.id(it.place + 1) for it in fields if it.is_static and it.kind == hprof.OBJECT}
-
-    def _readers_by_class(self) -> Iterator[Tuple[int, Reader]]:
-        """Yields each class whose instances have references, with what reads these."""
+    def _reader(self, places: Sequence[int]) -> Callable[[bytes, int], Tuple[int, ...]]:
+        """Returns what reads the identifiers at these places of an instance, given the dump and where that begins."""
         size, number = self.dump.id_size, "Q" if self.dump.id_size == 8 else "I"
-        for class_id in self.dump.classes:
-            places = [at for _, at, each in self.objects.fields_of(class_id) if each.kind == hprof.OBJECT]
-            if places:
-                skipped = [at - end for at, end in zip(places, [0, *(at + size for at in places)])]
-                yield class_id, struct.Struct(">" + "".join(f"{it}x{number}" for it in skipped)).unpack_from
+        skipped = [at - end for at, end in zip(places, [0, *(at + size for at in places)])]
+        return struct.Struct(">" + "".join(f"{it}x{number}" for it in skipped)).unpack_from

@@ -2,15 +2,14 @@
 
 import random
 import unittest
-from typing import AbstractSet, Iterator, List, Sequence, Tuple
+from typing import List, Sequence
 from unittest import mock
 
 from heap_tools import hprof_format as hprof
-from heap_tools import heap_objects, object_places, object_records
-from heap_tools.heap_dump import HeapDump
+from heap_tools import object_places, object_records
+from heap_tools.heap_dump import HeapDump, Span
 from heap_tools.heap_objects import HeapObjects
-from heap_tools.object_places import chosen_in, places_of_objects
-from heap_tools.object_records import PlacedPart
+from heap_tools.object_places import places_by_class
 from heap_tools.span_order import SpanOrder, order_of_segments
 from tests.support.dump_writer import BYTE, DumpWriter
 from tests.support.laid_out_heap import read
@@ -82,17 +81,11 @@ class OrderTest(unittest.TestCase):
 class PlacesTest(unittest.TestCase):
     """HeapObjects.places_of"""
 
-    def read_for(self, dump: HeapDump, wanted: Sequence[int]) -> List[int]:
-        """Looks objects up, and returns the numbers of the segments that are looked into for that."""
-        parts, read = places_of_objects(dump).parts, []
-
-        def noted(part: PlacedPart, identifiers: AbstractSet[int]) -> Iterator[Tuple[int, int]]:
-            read.append(next(number for number, each in enumerate(parts) if each is part))
-            return chosen_in(part, identifiers)
-
-        with mock.patch.object(heap_objects, "chosen_in", noted):
+    def read_for(self, dump: HeapDump, wanted: Sequence[int]) -> List[Span]:
+        """Looks objects up, and returns which segments are read for that."""
+        with mock.patch.object(object_places, "placed_part", wraps=object_records.placed_part) as read:
             HeapObjects(dump).places_of(wanted)
-        return read
+        return [call[0][1] for call in read.call_args_list]
 
     def test_places(self) -> None:
         """In any order of the identifiers each object is found where it is, in the order of the file; null, a class and
@@ -108,31 +101,36 @@ class PlacesTest(unittest.TestCase):
                     self.assertEqual(objects.places_of([identifier, 1004]), {identifier: at})
 
     def test_cost(self) -> None:
-        """If identifiers ascend, at most two segments are looked into for an object, and none for a class; for one that
-        is missing all are, each once."""
-        identifiers = two_spaces(100)
+        """If identifiers ascend, at most two segments are read for an object, and none for a class; for one that is
+        missing all are, but none twice."""
+        identifiers = two_spaces(100)  # in so few segments that this process reads them
         dump = dump_of(identifiers)
-        for some in (identifiers[:1], identifiers[70:71], [identifiers[3], identifiers[50], identifiers[80]]):
-            self.assertLessEqual(len(self.read_for(dump, some)), 2 * len(some))
         self.assertEqual(self.read_for(dump, [0, ORDER, ORDERS]), [])
-        every = list(range(len(dump.segments)))
-        self.assertEqual(sorted(self.read_for(dump, [*identifiers[:1], 1004])), every)
+        for some in (identifiers[:1], identifiers[70:71], [identifiers[3], identifiers[50], identifiers[80]]):
+            self.assertLessEqual(len(self.read_for(dump_of(identifiers), some)), 2 * len(some))
+            self.read_for(dump, some)
+            self.assertEqual(self.read_for(dump, some), [])
+        self.assertEqual(sorted(self.read_for(dump_of(identifiers), [*identifiers[:1], 1004])), dump.segments)
 
 
-class PlacesOfObjectsTest(unittest.TestCase):
-    """places_of_objects"""
+class ChosenTest(unittest.TestCase):
+    """chosen_objects"""
 
-    def test_parts(self) -> None:
-        """Objects of a segment are chosen by their identifiers, in its order."""
+    def test_chosen(self) -> None:
+        """Objects are chosen by their identifiers, in the order of the file."""
         for id_size in (4, 8):
             identifiers = mixed(30)
-            parts = places_of_objects(dump_of(identifiers, id_size)).parts
-            self.assertEqual([identifier for part in parts for identifier in part[0]], identifiers)
+            dump = dump_of(identifiers, id_size)
             for some in (identifiers[4:9], identifiers, identifiers[:0]):
-                found = [each for part in parts for each, _ in chosen_in(part, {*some})]
-                self.assertEqual(found, some)
+                found = list(object_places.chosen_objects(dump, dump.segments, {*some}))
+                self.assertEqual([identifier for identifier, _ in found], some)
+                self.assertEqual([dump.id(at + 1) for _, at in found], some)
 
-    def test_by_class(self) -> None:
+
+class PlacesByClassTest(unittest.TestCase):
+    """places_by_class"""
+
+    def test_places(self) -> None:
         """Instances are found by their class, in one process or several, and with 0 what else may refer to others; the
         objects are walked over once for each dump."""
         for id_size in (4, 8):
@@ -140,11 +138,10 @@ class PlacesOfObjectsTest(unittest.TestCase):
             dump = dump_of(identifiers, id_size)
             with mock.patch.object(object_places, "placed_objects", wraps=object_records.placed_objects) as walks:
                 for _ in range(2):
-                    found = places_of_objects(dump)
-            self.assertEqual([dump.id(at + 1) for at in found.by_class[ORDER]], identifiers[::3])
-            others = {dump.bytes[at] for at in found.by_class[0]}
+                    found = places_by_class(dump)
+            self.assertEqual([dump.id(at + 1) for at in found[ORDER]], identifiers[::3])
+            others = {dump.bytes[at] for at in found[0]}
             self.assertEqual(others, {hprof.CLASS_DUMP, hprof.OBJECT_ARRAY})
-            self.assertEqual([dump.id(at + 1) for part in found.parts for at in part[1]], identifiers)
             self.assertLessEqual(walks.call_count, 1)  # none, if other processes did it
 
 
