@@ -50,12 +50,11 @@ class Asked(NamedTuple):
 
 @dataclass(frozen=True)
 class Comparison:
-    """The dumps of a command line, the earliest first, the memory of direct buffers in the first and the last, what
-    asks these two, which weak references are followed, and what counts. `why`: in words what was decided about the
-    question. `growth`: how much more is asked for than in the first, with running calls."""
+    """The dumps of a command line, the earliest first, what asks the first and the last, which weak references are
+    followed, and what counts. `why`: in words what was decided about the question. `growth`: how much more is asked for
+    than in the first, with running calls."""
 
     dumps: Sequence[DumpRuns]
-    direct: Tuple[DirectMemory, DirectMemory]
     probe: GrowthProbe
     followed: Followed
     way: Way
@@ -71,6 +70,11 @@ class Comparison:
     def last(self) -> DumpRuns:
         """The last dump."""
         return self.dumps[-1]
+
+    @property
+    def direct(self) -> Tuple[DirectMemory, DirectMemory]:
+        """The memory of direct buffers in the first dump and in the last. Walks over all objects of both."""
+        return direct_memory(self.first.dump), direct_memory(self.last.dump)
 
     @property
     def follows_weak(self) -> bool:
@@ -150,11 +154,10 @@ def comparison_of(dumps: Sequence[DumpRuns], options: Options) -> Comparison:
     user follows them or those of one kind alone hold most of the growth."""
     ends, unit = (dumps[0], dumps[-1]), options.unit
     families = families_asked(options, dumps[-1])
-    direct = direct_memory(ends[0].dump), direct_memory(ends[1].dump)
     counts = WhatCounts(ends)
     followed, reports = followed_of(counts, families, unit, options.weak)
     require_more([each.total(families) for each in reports], options)
-    asked = with_growth(reports, with_direct_memory(reports, Asked(families, unit), direct), dumps)
+    asked = with_growth(reports, with_direct_memory(ends, reports, Asked(families, unit)), dumps)
     growth = grown(reports, asked.families, asked.unit)
     # What holds less than at_least percent is no line, and nothing below it is.
     percent = max(PASSING, options.bounds.first - 1)
@@ -165,7 +168,7 @@ def comparison_of(dumps: Sequence[DumpRuns], options: Options) -> Comparison:
     probe = GrowthProbe(first, last, asked.families, asked.unit)
     was, now = (each.total(asked.families) for each in reports)
     why = [*filter(None, [followed.why]), *asked.why]
-    return Comparison(dumps, direct, probe, followed, way, why, now.minus(was))
+    return Comparison(dumps, probe, followed, way, why, now.minus(was))
 
 
 def families_asked(options: Options, runs: DumpRuns) -> Optional[List[str]]:
@@ -174,11 +177,12 @@ def families_asked(options: Options, runs: DumpRuns) -> Optional[List[str]]:
     return None if options.of_class is None else [family_of(options.of_class, runs.dump, runs.report)]
 
 
-def with_direct_memory(reports: Sequence[Report], asked: Asked, direct: Tuple[DirectMemory, DirectMemory]) -> Asked:
-    """Returns the question about direct buffers if all is asked for, and the heap grew by less than their memory."""
-    before, after = direct
-    growth = grown(reports, asked.families, asked.unit)
-    if asked.families is not None or asked.unit is not Unit.BYTES or after.bytes - before.bytes <= max(0, growth):
+def with_direct_memory(ends: Sequence[DumpRuns], reports: Sequence[Report], asked: Asked) -> Asked:
+    """Returns the question about direct buffers if all is asked for, and the heap grew by less than their memory. Looks
+    for those of the first dump only if the last one has more."""
+    growth, after = max(0, grown(reports, asked.families, asked.unit)), direct_memory(ends[1].dump)
+    before = direct_memory(ends[0].dump) if after.bytes > growth else after
+    if asked.families is not None or asked.unit is not Unit.BYTES or after.bytes - before.bytes <= growth:
         return asked
     why = f"{more_direct_memory(before, after)}: the heap grew by less; {only_of(BUFFER)}"
     return Asked([BUFFER], Unit.OBJECTS, [why])

@@ -65,6 +65,14 @@ def more_direct_memory(before: DirectMemory, after: DirectMemory) -> str:
     )
 
 
+def more_direct_words(first: HeapDump, last: HeapDump, growth: int) -> str:
+    """Returns in words how the direct memory grew, empty if that explains nothing of the `growth` of the heap in bytes.
+    Looks for the buffers of the first dump only if it would be worth saying that it had none."""
+    after = direct_memory(last)
+    before = direct_memory(first) if worth_saying(DirectMemory(), after, growth) else after
+    return more_direct_memory(before, after) if worth_saying(before, after, growth) else ""
+
+
 def worth_saying(before: DirectMemory, after: DirectMemory, growth: int) -> bool:
     """Tests whether direct memory grew by at least `WORTH_SAYING` percent of the `growth` of the heap in bytes, or if
     that did not grow, of what it was."""

@@ -139,11 +139,11 @@ class HeapDump:
     def records(self) -> Iterator[Tuple[int, int, int]]:
         """Yields the tag of each record, where its body begins and where it ends. Raises `ValueError` if the last one
         does not end where the content does: then this is not what heapmark accepted."""
-        at = hprof.HEADER_SIZE
-        while at < self.size:
-            tag, body = self.bytes[at], at + hprof.RECORD_HEAD_SIZE
-            at = body + self.number(body - 4, 4)
-            if body > self.size or at > self.size:
+        at, data, count = hprof.HEADER_SIZE, self.bytes, hprof.COUNT.unpack_from
+        while at + hprof.RECORD_HEAD_SIZE <= self.size:
+            tag, body = data[at], at + hprof.RECORD_HEAD_SIZE
+            at = body + count(data, body - 4)[0]
+            if at > self.size:
                 break
             yield tag, body, at
         if at != self.size:
@@ -151,10 +151,10 @@ class HeapDump:
 
     def _read_records(self) -> None:
         """Keeps where strings and heap records are, how classes are called, and frames and traces."""
-        size = self.id_size
+        size, texts, data, id_at = self.id_size, self._texts, self.bytes, self.unpack_id
         for tag, body, at in self.records():
             if tag == hprof.STRING:
-                self._texts.setdefault(self.id(body), (body + size, at))
+                texts.setdefault(id_at(data, body)[0], (body + size, at))
             elif tag == hprof.LOAD_CLASS:
                 class_id = self.id(body + 4)
                 self._loaded.setdefault(class_id, self.id(body + 8 + size))

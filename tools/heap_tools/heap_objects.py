@@ -94,8 +94,9 @@ class HeapObjects:
         of one name, that of the class nearest to the instance's own. Returns nothing for an array or a class."""
         found: Dict[str, int] = {}
         for _, place, field in self.fields_of(self.class_of(at)):
-            if field.kind == hprof.OBJECT and self.dump.id(at + place):
-                found.setdefault(field.name, self.dump.id(at + place))
+            target = self.dump.id(at + place) if field.kind == hprof.OBJECT else 0
+            if target:
+                found.setdefault(field.name, target)
         return found
 
     def length_of(self, at: int) -> int:

@@ -9,7 +9,7 @@ from heap_tools.class_counts import grown_class_counts
 from heap_tools.class_growth import ClassGrowth, growths
 from heap_tools.class_names import is_own
 from heap_tools.comparison import Comparison
-from heap_tools.direct_buffers import more_direct_memory, worth_saying
+from heap_tools.direct_buffers import more_direct_words
 from heap_tools.humanize import counted
 from heap_tools.leak_answer import Answer
 from heap_tools.leak_lines import Line
@@ -38,7 +38,7 @@ class Notes(NamedTuple):
 def notes_of(comparison: Comparison, lines: Sequence[Line]) -> Notes:
     """Returns what is to be said beside lines."""
     grew = comparison.last.report.reachable.minus(comparison.first.report.reachable)
-    direct = more_direct_memory(*comparison.direct) if worth_saying(*comparison.direct, grew.bytes) else ""
+    direct = more_direct_words(comparison.first.dump, comparison.last.dump, grew.bytes)
     threads = grown_thread_counts(comparison.first.dump, comparison.last.dump)[:PATTERNS]
     classes = map(str, grown_class_counts(comparison.first.dump, comparison.last.dump)[:PATTERNS])
     every = (*classes, comparison.weak_words, direct, captured_words(lines))

@@ -8,7 +8,6 @@ from unittest import mock
 from heap_tools.candidates import FIELD, WEAK, Candidates
 from heap_tools.comparison import BETWEEN, Comparison, dumps_of, require_one_program, spread
 from heap_tools.console import Progress
-from heap_tools.direct_buffers import DirectMemory
 from heap_tools.dump_runs import DumpRuns
 from heap_tools.faults import Fault
 from heap_tools.heap_dump import HeapDump
@@ -72,8 +71,7 @@ class BetweenTest(unittest.TestCase):
         for way, cut in cases:
             probe: Any = mock.Mock(families=["shop/Order"], unit=Unit.BYTES)
             dumps: Any = [None, between, None]
-            none = DirectMemory(), DirectMemory()
-            comparison = Comparison(dumps, none, probe, Followed(way.follows), way, [], Amount())
+            comparison = Comparison(dumps, probe, Followed(way.follows), way, [], Amount())
             (found,) = comparison.probes_between([known.statics()], [])
             self.assertEqual(found.side.cut, cut, way)
             (found,) = comparison.probes_between([known.statics()], known.statics())

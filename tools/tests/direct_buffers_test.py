@@ -1,7 +1,9 @@
 """Tests how much memory of direct buffers a dump is said to have."""
 
 import unittest
+from unittest import mock
 
+from heap_tools import direct_buffers
 from heap_tools.direct_buffers import DirectMemory, direct_memory, more_direct_memory, worth_saying
 from heap_tools.heap_dump import HeapDump
 from tests.support.dump_writer import DumpWriter, word
@@ -53,6 +55,14 @@ class DirectBuffersTest(unittest.TestCase):
         self.assertIn("heap: 1,000, then 1,001", more_direct_memory(few, DirectMemory(1, 1001)))
         for after in (few, DirectMemory(2, 999)):
             self.assertEqual(more_direct_memory(few, after), "")
+
+    def test_first_dump(self) -> None:
+        """The first dump is looked into only if the buffers of the last one would be worth a line without its own."""
+        known = {"first": DirectMemory(1, 1000), "last": DirectMemory(2, 2000)}
+        for growth, looked_into, said in ((1000, 2, True), (30_000, 2, False), (50_000, 1, False), (0, 2, True)):
+            with mock.patch.object(direct_buffers, "direct_memory", side_effect=known.get) as found:
+                words = direct_buffers.more_direct_words("first", "last", growth)  # type: ignore[arg-type]
+            self.assertEqual((found.call_count, bool(words)), (looked_into, said), growth)
 
     def test_worth_saying(self) -> None:
         """A twentieth of the growth of the heap is worth a line, or if that did not grow, of what there was."""

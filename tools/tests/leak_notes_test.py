@@ -5,7 +5,6 @@ from typing import Dict, List
 from unittest import mock
 
 from heap_tools.candidates import FIELD, Candidate
-from heap_tools.direct_buffers import DirectMemory
 from heap_tools.leak_answer import Answer
 from heap_tools.leak_lines import Line, LineObjects
 from heap_tools.leak_notes import NOTHING_LASTS, PATTERNS, Notes, captured_words, lines_words, notes_of, notes_words
@@ -93,9 +92,9 @@ class LeakNotesTest(unittest.TestCase):
         """Of many patterns of threads only the first ones are said."""
         counts = [ThreadCount(f"pool-{letter}-*", 1, 9, []) for letter in "abcdefgh"]
         with mock.patch("heap_tools.leak_notes.grown_thread_counts", return_value=counts):
-            comparison = mock.Mock(direct=(DirectMemory(), DirectMemory()), dumps=[])
-            comparison.weak_words = ""
-            comparison.first.dump.classes = comparison.last.dump.classes = {}
+            comparison = mock.Mock(weak_words="", dumps=[])
+            for dump in (comparison.first.dump, comparison.last.dump):
+                dump.classes = dump.names = {}
             found = notes_of(comparison, [])
         self.assertEqual((found, PATTERNS), (Notes(counts[:3], []), 3))
 
