@@ -2,13 +2,13 @@
 
 import functools
 from dataclasses import dataclass
-from typing import List, NamedTuple, Optional, Sequence, Tuple, TypeVar
+from typing import List, NamedTuple, Optional, Sequence, TypeVar
 
 from heap_tools.class_growth import growths
 from heap_tools.class_lookup import family_of
 from heap_tools.class_names import CLASSES, family
 from heap_tools.console import Progress
-from heap_tools.direct_buffers import BUFFER, DirectMemory, direct_memory, more_direct_memory
+from heap_tools.direct_buffers import BUFFER, direct_memory, more_direct_memory
 from heap_tools.dump_runs import DumpRuns
 from heap_tools.faults import NOTHING, UNREADABLE, Fault
 from heap_tools.gzip_dump import forget
@@ -70,11 +70,6 @@ class Comparison:
     def last(self) -> DumpRuns:
         """The last dump."""
         return self.dumps[-1]
-
-    @property
-    def direct(self) -> Tuple[DirectMemory, DirectMemory]:
-        """The memory of direct buffers in the first dump and in the last. Walks over all objects of both."""
-        return direct_memory(self.first.dump), direct_memory(self.last.dump)
 
     @property
     def follows_weak(self) -> bool:

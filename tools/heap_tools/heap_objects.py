@@ -69,12 +69,10 @@ class HeapObjects:
         which they must be if identifiers ascend, and into the others only for what is not there."""
         wanted = {each for each in identifiers if each} - self.dump.classes.keys()
         order, segments = order_of_segments(self.dump), self.dump.segments
-        near = order.around(wanted) if order.is_ascending else {}
-        found: Dict[int, int] = {}
-        for are_near in (True, False):
-            if len(found) < len(wanted):
-                some = [each for number, each in enumerate(segments) if (number in near) is are_near]
-                found.update(chosen_objects(self.dump, some, wanted))
+        near = [segments[number] for number in order.around(wanted)] if order.is_ascending else []
+        found = dict(chosen_objects(self.dump, near, wanted))
+        if len(found) < len(wanted):
+            found.update(chosen_objects(self.dump, segments, wanted))
         return dict(sorted(found.items(), key=lambda each: each[1]))
 
     def class_of(self, at: int) -> int:

@@ -58,7 +58,9 @@ class HeldTable:
             end = line.end()
             objects, size, remainder, of_set, name, whole, first, second = line.groups()
             if whole:
-                self._add_joint(int(whole), int(first), int(second))
+                self._parts[int(whole)] = parts = int(first), int(second)
+                for part in parts:
+                    self._upper.setdefault(part, []).append(int(whole))
                 continue
             number = EMPTY if of_set == b"-" else int(of_set)
             row = numbers.get((name, remainder))
@@ -67,12 +69,6 @@ class HeldTable:
             by_set.setdefault(number, []).append(len(lines))
             lines.extend((number, row, int(objects), int(size)))
         return end == len(text)
-
-    def _add_joint(self, whole: int, first: int, second: int) -> None:
-        """Adds what a set is made of."""
-        self._parts[whole] = first, second
-        for part in (first, second):
-            self._upper.setdefault(part, []).append(whole)
 
     def _added(self, name: bytes, remainder: bytes) -> int:
         """Returns the number of a part of a row that a line had not before: that of another one if it has no parts."""

@@ -3,6 +3,7 @@
 from typing import List, NamedTuple, Optional, Sequence
 
 from heap_tools.comparison import Comparison, NoGrowth
+from heap_tools.direct_buffers import direct_memory
 from heap_tools.documents import JsonObject, amount_entry, candidates_entry, dump_entry, share_entry
 from heap_tools.dump_runs import DumpRuns
 from heap_tools.humanize import counted
@@ -71,7 +72,7 @@ def fields_of_growth(comparison: Comparison, answer: Answer, notes: Notes, cost:
             for it in notes.threads
         ],
         "ran_out": [],
-        "direct_bytes": [each.bytes for each in comparison.direct],
+        "direct_bytes": [direct_memory(each.dump).bytes for each in (comparison.first, comparison.last)],
         "heap_capacity_bytes": None,
         **cost_entry(cost),
     }

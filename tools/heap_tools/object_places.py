@@ -9,7 +9,6 @@ from heap_tools.heap_dump import HeapDump, Span
 from heap_tools.object_records import PlacedPart, placed_objects, placed_part
 from heap_tools.parallel import Result, shared
 
-
 #: The fewest segments for which a process of its own pays. Those of a virtual machine have a million bytes each.
 FEWEST_SEGMENTS = 16
 #: How many objects a process reads at once, and for how many times as many a process of its own pays.
@@ -43,9 +42,8 @@ def chosen_objects(dump: HeapDump, segments: Sequence[Span], wanted: AbstractSet
     the objects of each segment once."""
     known = PLACED_PARTS.setdefault(dump, {})
     unknown = [each for each in segments if each not in known]
-    if unknown:
-        parts = shared(lambda some: [placed_part(dump, each) for each in some], unknown, FEWEST_SEGMENTS)
-        known.update(zip(unknown, chain.from_iterable(parts)))
+    parts = shared(lambda some: [placed_part(dump, each) for each in some], unknown, FEWEST_SEGMENTS)
+    known.update(zip(unknown, chain.from_iterable(parts)))
     for identifiers, places in map(known.__getitem__, segments):
         for number in compress(range(len(places)), map(wanted.__contains__, identifiers)):
             yield identifiers[number], places[number]

@@ -35,21 +35,15 @@ class Referrer(NamedTuple):
     field: str
 
 
-class References(NamedTuple):
-    """References of some objects: where the objects are, how many references those up to each have, the identifiers of
-    all that they refer to, one object's after the other's, and the names of the fields, which repeat themselves."""
+class References:
+    """References of the objects at `places`: `targets` are the identifiers in each, `names` those of their fields, one
+    object's after the other's, and repeat themselves if all have the same."""
 
-    places: "array[int]"
-    ends: "array[int]"
-    targets: "array[int]"
-    names: Sequence[str]
-
-    @classmethod
-    def of(cls, places: Iterable[int], targets: Iterable[Collection[int]], names: Sequence[str]) -> "References":
-        """Returns the references of the objects at `places`, given those of each."""
+    def __init__(self, places: Iterable[int], targets: Iterable[Collection[int]], names: Sequence[str]) -> None:
         rows = list(targets)
-        ends, every = array("I", accumulate(map(len, rows))), array("Q", chain.from_iterable(rows))
-        return cls(array("Q", places), ends, every, names)
+        self.places, self.names = array("Q", places), names
+        #: How many references the objects up to each have, and the identifiers of all.
+        self.ends, self.targets = array("I", accumulate(map(len, rows))), array("Q", chain.from_iterable(rows))
 
     def to(self, wanted: AbstractSet[int]) -> Iterator[Referrer]:
         """Yields the references to some of `wanted`: an array refers once to each."""
@@ -126,23 +120,19 @@ class Referrers:
         """Yields the references of some instances of a class, or with 0 those of arrays and of class dumps."""
         dump, fields = self.dump, self._fields(class_id)
         if class_id:
-            read = self._reader([at for _, at, _ in fields])
-            yield References.of(places, map(read, repeat(dump.bytes), places), [it.name for _, _, it in fields])
+            ends = [0, *(at + dump.id_size for _, at, _ in fields)]
+            number, skipped = "Q" if dump.id_size == 8 else "I", (at - end for (_, at, _), end in zip(fields, ends))
+            read = struct.Struct(">" + "".join(f"{count}x{number}" for count in skipped)).unpack_from
+            yield References(places, map(read, repeat(dump.bytes), places), [it.name for _, _, it in fields])
             return
         arrays = [at for at in places if dump.bytes[at] == hprof.OBJECT_ARRAY]
-        yield References.of(arrays, map(self.objects.elements_of, arrays), [""])
+        yield References(arrays, map(self.objects.elements_of, arrays), [""])
         classes = [at for at in places if dump.bytes[at] == hprof.CLASS_DUMP]
         every = [dump.classes[dump.id(at + 1)].fields for at in classes]
         statics = [[it for it in of_class if it.is_static and it.kind == hprof.OBJECT] for of_class in every]
         ids = [[dump.id(it.place + 1) for it in of_class] for of_class in statics]
-        yield References.of(classes, ids, [it.name for of_class in statics for it in of_class])
+        yield References(classes, ids, [it.name for of_class in statics for it in of_class])
 
     def _fields(self, class_id: int) -> List[PlacedField]:
         """Returns the fields of the instances of a class that are references."""
         return [each for each in self.objects.fields_of(class_id) if each[2].kind == hprof.OBJECT]
-
-    def _reader(self, places: Sequence[int]) -> Callable[[bytes, int], Tuple[int, ...]]:
-        """Returns what reads the identifiers at these places of an instance, given the dump and where that begins."""
-        size, number = self.dump.id_size, "Q" if self.dump.id_size == 8 else "I"
-        skipped = [at - end for at, end in zip(places, [0, *(at + size for at in places)])]
-        return struct.Struct(">" + "".join(f"{it}x{number}" for it in skipped)).unpack_from
