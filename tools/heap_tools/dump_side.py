@@ -69,10 +69,6 @@ class DumpSide:
         assert self._base
         return self._base
 
-    def labels(self, places: Sequence[Sequence[Place]]) -> Labels:
-        """Returns the text by which these places are asked for."""
-        return Labels(self.cut, self.roots, places)
-
     def places(self, group: Several) -> List[Place]:
         """Returns the places of the references of a group: those of the same names in this dump."""
         return [place for each in group for place in self.candidates.places(each.key)]
@@ -131,8 +127,9 @@ def ask_places(questions: Sequence[Tuple[DumpSide, Sequence[Sequence[Place]]]]) 
     """Returns a table for each question, which are asked at once: what the references at each list of places hold.
     Raises `Fault` if the file of a dump has changed since it was read."""
     dumps = [
-        LabelledDump(side.runs.path, side.runs.dump.size, side.labels(places), bool(side.runs.report.reachable.objects))
+        LabelledDump(it.path, it.dump.size, Labels(side.cut, side.roots, places), bool(it.report.reachable.objects))
         for side, places in questions
+        for it in [side.runs]
     ]
     with contextlib.ExitStack() as stack:
         for side, _ in questions:

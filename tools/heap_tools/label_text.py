@@ -3,7 +3,8 @@
 docs/LABELS.md lists its lines. A place is a word and its numbers, as the text has them.
 """
 
-from typing import Iterable, Iterator, NamedTuple, Sequence
+from itertools import chain
+from typing import Iterator, NamedTuple, Sequence
 
 #: Where a reference is: `class ID K`, `object ID K` or `root K`.
 Place = str
@@ -39,14 +40,7 @@ class Labels(NamedTuple):
 
     def text(self) -> Iterator[bytes]:
         """Yields the lines of the text: what is cut, the roots, and each label by itself."""
-        yield _lines("cut", self.cut)
-        yield _lines("root", map(str, self.roots))
-        for number, places in enumerate(self.places):
-            yield _lines(f"label {number}", places)
-
-
-def _lines(head: str, places: Iterable[str]) -> bytes:
-    """Returns a line for each place, which begins with `head`."""
-    begin = f"\n{head} "
-    text = begin.join(["", *places])  # in one call: a run may have a million lines
-    return f"{text[1:]}\n".encode() if text else b""
+        labels = ((f"label {number}", places) for number, places in enumerate(self.places))
+        for head, places in chain([("cut", self.cut), ("root", list(map(str, self.roots)))], labels):
+            lines = f"\n{head} ".join(["", *places])  # in one call: a run may have a million lines
+            yield f"{lines[1:]}\n".encode() if lines else b""
