@@ -1,4 +1,5 @@
-"""Where the objects of a heap dump are, found in one walk for all questions about objects and fields."""
+"""Where the objects of a heap dump are: those of each class, found in one walk for all questions about fields, and those
+with some identifiers, found in one for each segment."""
 
 from array import array
 from itertools import chain, compress

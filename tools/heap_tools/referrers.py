@@ -52,7 +52,7 @@ class References:
         yield from (Referrer(self.places[at], target, self.names[name]) for at, target, name in dict.fromkeys(found))
 
 
-#: The references of those dumps that are still read: eight bytes for each, and as many for each object that has some. A
+#: The references of those dumps that are still read: eight bytes for each, and twelve for each object that has some. A
 #: search for what refers to others then takes a small part of the time that it takes to read them.
 EVERY_REFERENCE: "WeakKeyDictionary[HeapDump, List[References]]" = WeakKeyDictionary()
 
