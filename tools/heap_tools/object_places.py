@@ -1,5 +1,5 @@
-"""Where the objects of a heap dump are: those of each class, found in one walk for all questions about fields, and those
-with some identifiers, found in one for each segment."""
+"""Where the objects of a heap dump are: those of each class, found in one walk for all questions about fields, and
+those of the segments in which some were looked up."""
 
 from array import array
 from itertools import chain, compress

@@ -41,7 +41,7 @@ class Way(NamedTuple):
 
 
 #: All ways.
-WAYS = [
+WAYS_TO_COUNT = [
     Way(follows, calls)
     for follows in (*Weak, WeakKind.FINAL, WeakKind.PHANTOM, WeakKind.WEAK)
     for calls in (None, *Calls)
@@ -54,11 +54,11 @@ class WhatCounts:
     def __init__(self, dumps: Sequence[DumpRuns]) -> None:
         self.dumps = dumps
         self._sides = [side_of(each, Way(Weak.ALL)) for each in dumps]
-        self._tables = ask_places([(side, [cut_by(side, way) for way in WAYS]) for side in self._sides])
+        self._tables = ask_places([(side, [cut_by(side, way) for way in WAYS_TO_COUNT]) for side in self._sides])
 
     def reports(self, way: Way) -> List[Report]:
         """Returns the reports of the dumps by a way."""
-        return [side.report_without(table, WAYS.index(way)) for side, table in zip(self._sides, self._tables)]
+        return [side.report_without(table, WAYS_TO_COUNT.index(way)) for side, table in zip(self._sides, self._tables)]
 
 
 def side_of(runs: DumpRuns, way: Way) -> DumpSide:

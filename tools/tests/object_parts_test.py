@@ -64,7 +64,7 @@ class ElementsTest(unittest.TestCase):
                     with mock.patch.object(
                         HeapObjects, "places_of", autospec=True, side_effect=HeapObjects.places_of
                     ) as asked:
-                        values, _, are_elements = elements(objects, {500}, most, missing)
+                        values, _, are_elements, _ = elements(objects, {500}, most, missing)
                     is_too_many = most is not None and len(wanted) > most
                     self.assertEqual(any(1000 in words[0][1] for words in asked.call_args_list), not is_too_many)
                     pairs = [(found.id(each.instance + 1), found.id(each.value)) for each in values]

@@ -6,7 +6,7 @@ from typing import Any, Dict, List, Optional, Tuple
 from heap_tools.reports import Amount, Report, Row, Unit
 from heap_tools.what_counts import (
     PASSING,
-    WAYS,
+    WAYS_TO_COUNT,
     Calls,
     Way,
     Weak,
@@ -88,7 +88,7 @@ class WaysTest(unittest.TestCase):
         """The report by each way is that of the dump in which what it does not follow is cut. All take one run."""
         runs, before = self.runs(), RETAINED.runs
         counts, sizes = WhatCounts([runs]), {}
-        for way in WAYS:
+        for way in WAYS_TO_COUNT:
             (report,), side = counts.reports(way), side_of(runs, way)
             whole = runs.report_of(runs.reachable(side.cut, side.roots))
             self.assertEqual((report.families, report.reachable), (whole.families, whole.reachable), way)
