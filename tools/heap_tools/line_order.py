@@ -148,15 +148,11 @@ class LineOrder:
 
     def best(self) -> int:
         """Returns the line with the best score. One that is of a collection comes after one that is not and has most of
-        its score: a collection of the JDK has what all of its kind hold. Several together come after a single one that
-        lasts."""
+        its score: a collection of the JDK has what all of its kind hold."""
         chosen = self._largest(self.numbers)
         others = [it for it in self.numbers if not self.lines[it].is_collection]
         if others and self.even_scores[self._largest(others)] >= MOST * self.even_scores[chosen]:
             chosen = self._largest(others)
-        single = [it for it in self.numbers if says(self.lines[it]) > TOGETHER]
-        if single and says(self.lines[chosen]) == TOGETHER and self._lasts(self._largest(single)):
-            chosen = self._largest(single)
         return chosen
 
     def _largest(self, numbers: Sequence[int]) -> int:

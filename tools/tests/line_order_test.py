@@ -96,8 +96,7 @@ rule 4, a thread rather than a collection: *thread "main" > java/util/HashMap.ta
 rule 4, no field of the JDK: *static shop/A.STORE > java/lang/Queue.list
 rule 4, one of the JDK, if what is above has less: static shop/A.a (899) > *java/lang/Queue.list
 rule 4, one of the JDK rather than a collection: *java/lang/Queue.list > java/util/HashMap.table
-rule 4, several together, if no single one lasts: *two (together), static shop/A.a (249)
-rule 4, else the single one: two (together), *static shop/A.a (250)
+rule 1, several together before a healthy catalog: *two (740 together), static shop/Catalog.all (220)
 rule 4, several together, and a collection: *two (together), java/util/HashMap.table
 rule 4, several of one object, and a single one: *two (together one), static shop/A.a
 rule 4, several of one object, and one with far more: two (400 together one), *static shop/A.a
