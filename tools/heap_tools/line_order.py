@@ -147,18 +147,9 @@ class LineOrder:
         return score
 
     def best(self) -> int:
-        """Returns the line with the best score. One that is of a collection comes after one that is not and has most of
-        its score: a collection of the JDK has what all of its kind hold."""
-        chosen = self._largest(self.numbers)
-        others = [it for it in self.numbers if not self.lines[it].is_collection]
-        if others and self.even_scores[self._largest(others)] >= MOST * self.even_scores[chosen]:
-            chosen = self._largest(others)
-        return chosen
-
-    def _largest(self, numbers: Sequence[int]) -> int:
-        """Returns the line of `numbers` with the largest score, of those with nearly that one whose name says most."""
+        """Returns the line with the best score, of those with nearly that one whose name says most."""
         lines, scores = self.lines, self.even_scores
-        near = [it for it in numbers if scores[it] >= NEARLY * max(scores[each] for each in numbers)]
+        near = [it for it in self.numbers if scores[it] >= NEARLY * max(scores.values())]
         return max(self._say_most(near), key=lambda it: (scores[it], -lines[it].heap, lines[it].name))
 
     def _say_most(self, numbers: Sequence[int]) -> List[int]:

@@ -86,8 +86,7 @@ rule 3, what is below gained most in one step: *static shop/A.a > shop/C.c (900 
 rules 3 and 4, nearly as much, however even: *shop/B.b (950 uneven) > java/lang/L.l (990 odd)
 rule 3, what is beside is not deeper: *static shop/A.a, static shop/B.b (600)
 rule 4, no collection: *static shop/A.STORE > java/util/HashMap.table
-rule 4, a collection beside: java/util/HashMap.table, *static shop/A.a (500)
-rule 4, a collection beside that has far more: *java/util/HashMap.table, static shop/A.a (499)
+rule 1, a collection beside that has more: *java/util/HashMap.table, static shop/A.a (899)
 rule 4, no variable of a lambda: *static shop/A.STORE > shop/Bus$$Lambda.arg$1
 rule 4, no thread: thread "main" > *local shop/Main.run
 rule 4, a thread, if nothing else is there: *thread "main", java/util/HashMap.table (600)
