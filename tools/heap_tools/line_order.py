@@ -5,11 +5,11 @@ most, or elements that the answer had before), without what was above it, below 
 and nothing if it did not grow at each step between dumps. Lines that gained unevenly come later: scores are compared
 without the part of the gain by which the largest step exceeds the smallest, as they are or per time, but with a quarter
 at least. If no score is a quarter of the growth, nothing that lasts holds what grew: the answer is the topmost line, a
-thread before others. Else the answer is the deepest line on the path of the best score (of those with nine tenths of
-it, of the line whose name says most), above or below it, that has half of that score: the accumulation point. A
-collection, several of the JDK or with a thread together, a variable of a lambda or a thread is the answer only if no
-other line on that path has nine tenths of that score, or half of it below; of fields, own ones, and those of which one
-object gained most, come before the JDK's in the same way. The other lines follow by their scores.
+thread before others. Else the answer is the deepest line on the path of the best score, above or below it, that has
+half of that score: the accumulation point. A collection, several of the JDK or with a thread together, a variable of a
+lambda or a thread is the answer only if no other line on that path has nine tenths of that score, or half of it below;
+of fields, own ones, and those of which one object gained most, come before the JDK's in the same way. The other lines
+follow by their scores.
 """
 
 import enum
@@ -21,7 +21,7 @@ from heap_tools.probe import Retained
 
 #: The part of the best score that a line must have to be on its path. 0.4 to 0.6 gave the same answers.
 MOST = 0.5
-#: The part of the best score that is as good if the name says more: both gained the same, but for what else they have.
+#: The part of what another line has that is as good as all of it: the rest is what else either has.
 NEARLY = 0.9
 #: The part of the growth that the best score must be: with less, too little of it is in what was there before.
 LASTS = 0.25
@@ -147,10 +147,9 @@ class LineOrder:
         return score
 
     def best(self) -> int:
-        """Returns the line with the best score, of those with nearly that one whose name says most."""
+        """Returns the line with the best score, of several that which holds least."""
         lines, scores = self.lines, self.even_scores
-        near = [it for it in self.numbers if scores[it] >= NEARLY * max(scores.values())]
-        return max(self._say_most(near), key=lambda it: (scores[it], -lines[it].heap, lines[it].name))
+        return max(self.numbers, key=lambda it: (scores[it], -lines[it].heap, lines[it].name))
 
     def _say_most(self, numbers: Sequence[int]) -> List[int]:
         """Returns those lines of `numbers` whose names say most."""

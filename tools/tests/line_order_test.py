@@ -86,7 +86,7 @@ rule 3, what is below gained most in one step: *static shop/A.a > shop/C.c (900 
 rules 3 and 4, nearly as much, however even: *shop/B.b (950 uneven) > java/lang/L.l (990 odd)
 rule 3, what is beside is not deeper: *static shop/A.a, static shop/B.b (600)
 rule 4, no collection: *static shop/A.STORE > java/util/HashMap.table
-rule 1, a collection beside that has more: *java/util/HashMap.table, static shop/A.a (899)
+rule 1, a collection beside that has more: *java/util/HashMap.table, static shop/A.a (999)
 rule 4, no variable of a lambda: *static shop/A.STORE > shop/Bus$$Lambda.arg$1
 rule 4, no thread: thread "main" > *local shop/Main.run
 rule 4, a thread, if nothing else is there: *thread "main", java/util/HashMap.table (600)
@@ -100,10 +100,7 @@ rule 4, several together, and a collection: *two (together), java/util/HashMap.t
 rule 4, several of one object, and a single one: *two (together one), static shop/A.a
 rule 4, several of one object, and one with far more: two (400 together one), *static shop/A.a
 rule 4, several of one object of the JDK: java/lang/Text.value (together one), *static shop/A.a
-rules 1 and 4, nearly as much, and a name that says more: java/lang/Text.value, *static shop/A.a (900)
-rules 1 and 4, a name that says more, but less: *java/lang/Text.value, static shop/A.a (899)
-rules 1 and 4, nearly as much, and no collection: java/util/HashMap.table, *java/lang/Text.value (900)
-rules 1 and 4, of two that say as much the larger: *static shop/A.a, static shop/B.b (999)
+rule 1, a name that says more, but less: *java/lang/Text.value, static shop/A.a (999)
 rules 1 and 2, one object refutes that nothing lasts: threads "job" (900 9..99), *shop/B.b (900 9..99 one)
 rules 1 and 2, what moved does not last: shop/Swap.s (moved) > shop/B.b (900), *shop/Order.text (10..110)
 rules 1 and 3, the payload is deeper: *static shop/A.STORE > shop/Order.text (10..110)
@@ -135,7 +132,6 @@ few instances: static shop/A.STORE > *shop/Pool.list (0..64)
 many instances: *static shop/A.STORE > shop/Order.text (0..65)
 many instances, of which few have a value: static shop/A.STORE > *shop/Order.text (0..64/500)
 many instances, of which some have a value: *static shop/A.STORE > shop/Order.text (0..65/500)
-nearly as much, and a name that says more: *static shop/A.a (900), java/lang/Text.value (0..9)
 many classes alike: *static shop/V$$*.v (0..2690), shop/B.b (400)
 many classes of one name: static shop/V.v (0..2690), *shop/B.b (400)
 many instances, of which one holds most: static shop/A.STORE > *shop/Tenant.inbox (0..500 one)
