@@ -7,9 +7,9 @@ without the part of the gain by which the largest step exceeds the smallest, as 
 at least. If no score is a quarter of the growth, nothing that lasts holds what grew: the answer is the topmost line, a
 thread before others. Else the answer is the deepest line on the path of the best score, above or below it, that has
 half of that score: the accumulation point. A collection, several of the JDK or with a thread together, a variable of a
-lambda or a thread is the answer only if no other line on that path has nine tenths of that score, or half of it below;
-of fields, own ones, and those of which one object gained most, come before the JDK's in the same way. The other lines
-follow by their scores.
+lambda or a thread is the answer only if no other line on that path has that much; and own fields, and those of which
+one object gained most, come before those of the JDK, and these before several together. The other lines follow by their
+scores.
 """
 
 import enum
@@ -121,7 +121,7 @@ class LineOrder:
         if not self.numbers:
             return None
         best = self.best()
-        return self.deepest_with(best, self.numbers) if self._lasts(best) else self.topmost()
+        return self.deepest_with(best) if self._lasts(best) else self.topmost()
 
     def lasts(self) -> bool:
         """Tests whether something that lasts holds enough of the growth, or there is no line. Else the answer is only
@@ -151,11 +151,6 @@ class LineOrder:
         lines, scores = self.lines, self.even_scores
         return max(self.numbers, key=lambda it: (scores[it], -lines[it].heap, lines[it].name))
 
-    def _say_most(self, numbers: Sequence[int]) -> List[int]:
-        """Returns those lines of `numbers` whose names say most."""
-        most = max(says(self.lines[it]) for it in numbers)
-        return [it for it in numbers if says(self.lines[it]) == most]
-
     def _lasts(self, number: int) -> bool:
         """Tests whether the score of a line is enough of the growth, or of what lines gained if that is less."""
         largest = max(self.lines[it].gain for it in self.numbers if self._is_steady(it))
@@ -167,16 +162,11 @@ class LineOrder:
         top = [it for it in steady if not any(self._is_below(it, upper) for upper in steady)]
         return max(top or steady, key=lambda it: (lines[it].is_thread, not lines[it].is_collection, lines[it].gain))
 
-    def deepest_with(self, best: int, numbers: Sequence[int]) -> int:
-        """Returns the deepest line of `numbers` above or below `best` that has most of its score, of those whose names
-        say most."""
-        near = [it for it in numbers if self.even_scores[it] >= MOST * self.even_scores[best]]
-        path = [it for it in near if self._is_on_path(it, best)]
-        for near in [it for it in path if self.scores[it] >= NEARLY * self.scores[best]], path:
-            named = [it for it in near if says(self.lines[it])]
-            if named:
-                return self._own_below(min(self._say_most(named), key=self._depth), path)
-        return min(path, key=self._depth)
+    def deepest_with(self, best: int) -> int:
+        """Returns the deepest line above or below `best` that has most of its score, of those whose names say most."""
+        near = [it for it in self.numbers if self.even_scores[it] >= MOST * self.even_scores[best]]
+        path = (it for it in near if self._is_on_path(it, best))
+        return min(path, key=lambda it: (-says(self.lines[it]), *self._depth(it)))
 
     def to_ask(self) -> List[int]:
         """Returns the lines of which it is to be asked whether one object gained most: fields of instances that gained
@@ -231,12 +221,6 @@ class LineOrder:
         line = self.lines[number]
         is_one = line.kinds == (FIELD,) and line.instances > 1
         return is_one and not line.is_chain and (says(line) > TOGETHER or line.with_value <= FEW)
-
-    def _own_below(self, number: int, path: Sequence[int]) -> int:
-        """Returns the deepest own line of `path` below a line, of several together below several, else that line."""
-        wanted = {OF_PROGRAM, TOGETHER} if says(self.lines[number]) == TOGETHER else {OF_PROGRAM}
-        own = (it for it in path if says(self.lines[it]) in wanted and self._is_below(it, number))
-        return min(own, key=self._depth, default=number)
 
     def _is_steady(self, number: int) -> bool:
         """Tests whether a line grew at each step, or none did."""

@@ -90,6 +90,7 @@ class LinesTest(unittest.TestCase):
         instances have the fields that are asked which of them does: it has a name if `named`."""
         above = [field("shop/Topic.feed", 24), field("shop/Feed.store", 9), Candidate(STATIC, "shop/A.ALL", 1)]
         things: Things = [([[each.name] for each in [answer, *above]], 100), ([["shop/A.ALL"], [above[0].name]], 5)]
+        things.append(([[each.name] for each in above], 1))
         lines = self.lines([*above, answer], [], things, before=1)
         lines.uses = mock.Mock(**{"of.return_value": Parts([FieldValue(77, 78)])})
         (found,) = holding(100)

@@ -93,7 +93,7 @@ rule 4, a thread, if nothing else is there: *thread "main", java/util/HashMap.ta
 rule 4, no fields of the JDK together: *thread "main" > java/lang/Thread.target (together)
 rule 4, a thread rather than a collection: *thread "main" > java/util/HashMap.table
 rule 4, no field of the JDK: *static shop/A.STORE > java/lang/Queue.list
-rule 4, one of the JDK, if what is above has less: static shop/A.a (899) > *java/lang/Queue.list
+rule 4, no field of the JDK, if what is above has half: *static shop/A.a (500) > java/lang/Queue.list
 rule 4, one of the JDK rather than a collection: *java/lang/Queue.list > java/util/HashMap.table
 rule 1, several together before a healthy catalog: *two (740 together), static shop/Catalog.all (220)
 rule 4, several together, and a collection: *two (together), java/util/HashMap.table
