@@ -4,12 +4,11 @@ A line's score is what it gained without what came with new instances (unless th
 most, or elements that the answer had before), without what was above it, below it or in a field of its class before,
 and nothing if it did not grow at each step between dumps. Lines that gained unevenly come later: scores are compared
 without the part of the gain by which the largest step exceeds the smallest, as they are or per time, but with a quarter
-at least. If no score is a quarter of the growth, nothing that lasts holds what grew: the answer is the topmost line, a
-thread before others. Else the answer is the deepest line on the path of the best score, above or below it, that has
-half of that score: the accumulation point. A collection, several of the JDK or with a thread together, a variable of a
-lambda or a thread is the answer only if no other line on that path has that much; and own fields, and those of which
-one object gained most, come before those of the JDK, and these before several together. The other lines follow by their
-scores.
+at least. If no score is a quarter of the growth, nothing that lasts holds what grew: the answer is the topmost line.
+Else the answer is the deepest line on the path of the best score, above or below it, that has half of that score: the
+accumulation point. A collection, several of the JDK or with a thread together, a variable of a lambda or a thread is
+the answer only if no other line on that path has that much; and own fields, and those of which one object gained most,
+come before those of the JDK, and these before several together. The other lines follow by their scores.
 """
 
 import enum
@@ -157,10 +156,10 @@ class LineOrder:
         return self.scores[number] >= LASTS * min(self.growth, largest)
 
     def topmost(self) -> int:
-        """Returns the line that no other one holds, of several a thread, else the one that gained most."""
+        """Returns the line that no other one holds, of several the one that gained most."""
         lines, steady = self.lines, [it for it in self.numbers if self._is_steady(it)]
         top = [it for it in steady if not any(self._is_below(it, upper) for upper in steady)]
-        return max(top or steady, key=lambda it: (lines[it].is_thread, not lines[it].is_collection, lines[it].gain))
+        return max(top or steady, key=lambda it: lines[it].gain)
 
     def deepest_with(self, best: int) -> int:
         """Returns the deepest line above or below `best` that has most of its score, of those whose names say most."""

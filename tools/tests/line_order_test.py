@@ -73,7 +73,7 @@ rule 1, a quarter of it counts in any case: *static shop/A.a (jump), static shop
 rule 1, all gained most in one step: *static shop/A.a (900 uneven), static shop/B.b (400 jump)
 rule 1, none grew at each step, and that most: *static shop/A.a (900 unsteady), static shop/B.b (400 unsteady)
 rule 2, nothing lasts: *shop/Session.orders (9..99) > shop/Order.text (10..110)
-rule 2, nothing lasts, a thread first: *threads "job" (900 9..99), shop/B.b (950 9..99)
+rule 2, nothing lasts, of two the one that gained more: threads "job" (900 9..99), *shop/B.b (950 9..99)
 rule 2, a quarter lasts: *static shop/A.a (250), shop/Order.text (10..110)
 rule 2, less than a quarter lasts: static shop/A.a (249), *shop/Order.text (10..110)
 rule 2, little grew at each step: *static shop/A.a (200), static shop/B.b (700 unsteady)
@@ -113,7 +113,6 @@ rules 1 and 4, a field of the JDK of which one object gained most: static shop/A
 rules 1 and 4, a collection of which one object did: *static shop/A.a > java/util/HashMap.table (9..9 one)
 rules 1 and 4, a name that says more did not last: shop/A.a (9..99) > *java/lang/Queue.list
 rules 2 and 3, of what does not last the topmost: *shop/Order.text (10..110) > shop/Order.id (900 10..110)
-rules 2 and 4, of what does not last no collection: java/util/HashMap.table (990 9..99), *shop/B.b (900 9..99)
 rules 3 and 4, one of the JDK below several together: two (together) > *java/lang/Thread.threadLocals
 rules 3 and 4, several of one object below a single one: static shop/A.a > *two (9..99 together one)
 rules 3 and 4, several of several objects below a single one: *static shop/A.a > two (together)
