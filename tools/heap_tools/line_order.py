@@ -27,8 +27,6 @@ LASTS = 0.25
 #: The part of its score that a line keeps, however uneven its steps are: a leak may gain most in one busy step. The
 #: steps of a cache that happens to hold more in each of three or four dumps differ by half of its gain, on average.
 UNEVEN = 0.25
-#: The part of all objects that were gained which a class must have to show that they did not move.
-LARGE_CLASS = 0.1
 #: The part of what a line holds that it may have held before, if it is asked whether that was beside it.
 HARDLY_ANY = 0.1
 #: The part of its instances that a field must hold to be a chain, and that must have a value in it: each leads to the
@@ -82,9 +80,8 @@ def lasting_gain(line: Features) -> float:
 
 def part_gained(line: Features, upper: Features) -> float:
     """Returns the part of a line's gain that `upper`, which holds all of it, gained, too: of the class of which that is
-    most, among those of which much was gained. What moved takes all its classes along."""
-    large = LARGE_CLASS * sum(gain for gain in line.gains.values() if gain > 0)
-    parts = [upper.gains.get(name, 0) / gain for name, gain in line.gains.items() if gain > 0 and gain >= large]
+    most. What moved takes all its classes along."""
+    parts = [upper.gains.get(name, 0) / gain for name, gain in line.gains.items() if gain > 0]
     return min(1.0, max(0.0, *parts)) if parts else 1.0
 
 

@@ -350,10 +350,10 @@ class LineOrderTest(unittest.TestCase):
         self.assertIsNone(LineOrder([], lambda upper, lower: False, GROWTH).to_ask_of_new())
 
     def test_part_gained(self) -> None:
-        """What moved is seen by the classes that have a tenth or more of the objects that were gained."""
-        for moved, part in ((9, 0.0), (10, 1.0)):
-            found = line("shop/A.a", "", 0)
-            lower = replace(found, gains={"shop/Order": 100 - moved, "shop/Moved": moved, "shop/Less": -50})
+        """What moved is seen by the class of which most was gained above, too."""
+        found = line("shop/A.a", "", 0)
+        lower = replace(found, gains={"shop/Order": 90, "shop/Moved": 10, "shop/Less": -50})
+        for moved, part in ((0, 0.0), (5, 0.5), (10, 1.0)):
             upper = replace(found, gains={"shop/Moved": moved, "shop/Less": 50})
             self.assertEqual(part_gained(lower, upper), part, moved)
 
