@@ -198,11 +198,10 @@ class LineOrder:
         return next((it for it in (self.best(), answer) if self._is_average(it)), None)
 
     def _is_average(self, number: int) -> bool:
-        """Tests whether the score of a line is an average. Of a chain it is not asked what each instance holds: all
-        that come after it."""
+        """Tests whether the score of a line is an average."""
         line = self.lines[number]
         known = max(line.of_one, line.of_elements) * line.gain
-        is_of_many = line.kinds == (FIELD,) and line.with_value > FEW and not line.is_chain
+        is_of_many = line.kinds == (FIELD,) and line.with_value > FEW
         return is_of_many and line.of_largest is None and line.part_came > 0 and self.scores[number] > known
 
     def _with_objects(self, of: int) -> List[int]:

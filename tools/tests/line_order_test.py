@@ -340,7 +340,6 @@ class LineOrderTest(unittest.TestCase):
             ("*shop/A.a (900 100..100), static shop/B.b (400)", None),
             ("*shop/A.a (900 50..64), static shop/B.b (400)", None),
             ("*shop/A.a (900 100..110 one), static shop/B.b (400)", None),
-            ("*shop/A.a (900 100..110 chain), static shop/B.b (400)", None),
             ("*static shop/B.b, shop/A.a (900 100..110)", None),
             ("*shop/Order.text (10..110)", None),
         ):
