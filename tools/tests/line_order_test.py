@@ -89,6 +89,8 @@ rule 4, no collection: *static shop/A.STORE > java/util/HashMap.table
 rule 1, a collection beside that has more: *java/util/HashMap.table, static shop/A.a (999)
 rule 4, no variable of a lambda: *static shop/A.STORE > shop/Bus$$Lambda.arg$1
 rule 4, no thread: thread "main" > *local shop/Main.run
+rule 4, no thread above a field of the JDK: thread "main" > *java/lang/Queue.list
+rule 4, no thread above several together: thread "main" > *two (together)
 rule 4, a thread, if nothing else is there: *thread "main", java/util/HashMap.table (600)
 rule 4, no fields of the JDK together: *thread "main" > java/lang/Thread.target (together)
 rule 4, a thread rather than a collection: *thread "main" > java/util/HashMap.table
