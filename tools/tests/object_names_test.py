@@ -83,6 +83,20 @@ class NamesTest(unittest.TestCase):
         owned.string(60_001, "eu")
         self.assertEqual(self.names(owned, 300), [['of shop/Hall, its field name "eu"']])
 
+    def test_likeliest_owner(self) -> None:
+        """Of owners that are equally near those come first whose text is called like a name."""
+        dump = Queues([])
+        dump.of_class(20, "shop/Atom")
+        dump.of_class(21, "shop/Atrium", {"FIRST": 310}, fields=["atom", "kind"])
+        dump.of_class(22, "shop/Hall", {"ONLY": 320}, fields=["atom", "name"])
+        dump.instance(300, 20)
+        dump.instance(310, 21, 300, 60_000)
+        dump.instance(320, 22, 300, 60_001)
+        dump.string(60_000, "glass")
+        dump.string(60_001, "big")
+        owners = ['of shop/Hall, its field name "big"', 'of shop/Atrium, its field kind "glass"']
+        self.assertEqual(self.names(dump, 300), [owners])
+
     def boxes(self) -> Queues:
         """Returns a dump with four objects without names, a text and three boxed numbers."""
         dump = Queues([])
