@@ -161,7 +161,7 @@ class LineOrder:
     def deepest_with(self, best: int) -> int:
         """Returns the deepest line above or below `best` that has most of its score, of those whose names say most."""
         near = [it for it in self.numbers if self.even_scores[it] >= MOST * self.even_scores[best]]
-        path = (it for it in near if self._is_on_path(it, best))
+        path = (it for it in near if it == best or self._is_below(it, best) or self._is_below(best, it))
         return min(path, key=lambda it: (-says(self.lines[it]), *self._depth(it)))
 
     def to_ask(self) -> List[int]:
@@ -228,10 +228,6 @@ class LineOrder:
     def _is_below(self, lower: int, upper: int) -> bool:
         """Tests whether a line is below another one: of two that hold nearly the same, that which holds less."""
         return lower != upper and self.lines[lower].heap <= self.lines[upper].heap and self.holds(upper, lower)
-
-    def _is_on_path(self, number: int, best: int) -> bool:
-        upper, lower = sorted((number, best), key=lambda it: -self.lines[it].heap)
-        return number == best or self.holds(upper, lower) or self.holds(lower, upper)
 
     def _depth(self, number: int) -> Tuple[bool, int, str]:
         """Returns what the deepest line is the smallest by, among those with one score: a thread, if none says more."""
