@@ -171,8 +171,9 @@ class LineOrder:
         answer = self.answer()
         if answer is None:
             return []
-        lines, asked = self.lines, self._with_objects(answer)
-        found = [it for it in asked if it == answer or self._is_below(it, answer)]
+        lines, least = self.lines, MOST * self.lines[answer].gain
+        found = [it for it in self.numbers if lines[it].gain >= least and self._has_objects(it)]
+        found = [it for it in found if it == answer or self._is_below(it, answer)]
         found.sort(key=lambda it: (-max(says(lines[it]), 1), lines[it].with_value))
         return [*found[:MOST_ASKED], *([] if answer in found else [answer])]
 
@@ -203,12 +204,6 @@ class LineOrder:
         known = max(line.of_one, line.of_elements) * line.gain
         is_of_many = line.kinds == (FIELD,) and line.with_value > FEW
         return is_of_many and line.of_largest is None and line.part_came > 0 and self.scores[number] > known
-
-    def _with_objects(self, of: int) -> List[int]:
-        """Returns the lines about several instances that gained most of what a line did and hold no more than it."""
-        gain, heap = self.lines[of].gain, self.lines[of].heap
-        lines = ((it, self.lines[it]) for it in self.numbers if self._has_objects(it))
-        return [it for it, line in lines if line.gain >= MOST * gain and line.heap <= heap]
 
     def _has_objects(self, number: int) -> bool:
         """Tests whether a line is about several instances, of which one may hold most. Of many collections one that
