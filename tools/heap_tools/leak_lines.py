@@ -192,7 +192,7 @@ class Lines:
         return dataclasses.replace(line, of_one=of_one, of_each=of_each)
 
     def _order(self) -> LineOrder:
-        return LineOrder(self.features, self._holds, self.probe.unit.of(self.probe.growth), self.scoring)
+        return LineOrder(self.features, self._holds, self.scoring)
 
     def _holds(self, upper: int, lower: int) -> bool:
         """Tests whether a line holds nearly all that another one does: a field of a general class, such as a list of a

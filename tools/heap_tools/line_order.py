@@ -4,11 +4,12 @@ A line's score is what it gained without what came with new instances (unless th
 most, or elements that the answer had before), without what was above it, below it or in a field of its class before,
 and nothing if it did not grow at each step between dumps. Lines that gained unevenly come later: scores are compared
 without the part of the gain by which the largest step exceeds the smallest, as they are or per time, but with a quarter
-at least. If no score is a quarter of the growth, nothing that lasts holds what grew: the answer is the topmost line.
-Else the answer is the deepest line on the path of the best score, above or below it, that has half of that score: the
-accumulation point. A collection, several of the JDK or with a thread together, a variable of a lambda or a thread is
-the answer only if no other line on that path has that much; and own fields, and those of which one object gained most,
-come before those of the JDK, and these before several together. The other lines follow by their scores.
+at least. If no score is a quarter of the most that a line gained, nothing that lasts holds what grew: the answer is the
+topmost line. Else the answer is the deepest line on the path of the best score, above or below it, that has half of
+that score: the accumulation point. A collection, several of the JDK or with a thread together, a variable of a lambda
+or a thread is the answer only if no other line on that path has that much; and own fields, and those of which one
+object gained most, come before those of the JDK, and these before several together. The other lines follow by their
+scores.
 """
 
 import enum
@@ -22,7 +23,7 @@ from heap_tools.probe import Retained
 MOST = 0.5
 #: The part of what another line has that is as good as all of it: the rest is what else either has.
 NEARLY = 0.9
-#: The part of the growth that the best score must be: with less, too little of it is in what was there before.
+#: The part of the largest gain that the best score must be: with less, too little is in what was there before.
 LASTS = 0.25
 #: The part of its score that a line keeps, however uneven its steps are: a leak may gain most in one busy step. The
 #: steps of a cache that happens to hold more in each of three or four dumps differ by half of its gain, on average.
@@ -90,17 +91,10 @@ Holds = Callable[[int, int], bool]
 
 
 class LineOrder:
-    """The order of `lines`, of which some are `Features.is_line`: numbers of these, by what `holds` what. `growth` is
-    what shares are of."""
+    """The order of `lines`, of which some are `Features.is_line`: numbers of these, by what `holds` what."""
 
-    def __init__(
-        self,
-        lines: Sequence[Features],
-        holds: Holds,
-        growth: int,
-        scoring: Scoring = Scoring.GAIN,
-    ) -> None:
-        self.lines, self.holds, self.growth, self.scoring = lines, holds, growth, scoring
+    def __init__(self, lines: Sequence[Features], holds: Holds, scoring: Scoring = Scoring.GAIN) -> None:
+        self.lines, self.holds, self.scoring = lines, holds, scoring
         self.numbers = sorted((it for it, line in enumerate(lines) if line.is_line), key=lambda it: lines[it].heap)
         self.some_are_steady = any(lines[number].grew_at_each_step for number in self.numbers)
         self.scores = {number: self.score(number) for number in self.numbers}
@@ -148,9 +142,9 @@ class LineOrder:
         return max(self.numbers, key=lambda it: (scores[it], -lines[it].heap, lines[it].name))
 
     def _lasts(self, number: int) -> bool:
-        """Tests whether the score of a line is enough of the growth, or of what lines gained if that is less."""
+        """Tests whether the score of a line is enough of the most that a line gained."""
         largest = max(self.lines[it].gain for it in self.numbers if self._is_steady(it))
-        return self.scores[number] >= LASTS * min(self.growth, largest)
+        return self.scores[number] >= LASTS * largest
 
     def topmost(self) -> int:
         """Returns the line that no other one holds, of several the one that gained most."""

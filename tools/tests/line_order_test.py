@@ -193,7 +193,7 @@ class Row(NamedTuple):
         """Returns the order, and the names of the lines, from the last one up if `step` is -1."""
         lines = self.lines[::step]
         names = [each.name for each in lines]
-        return LineOrder(lines, lambda upper, lower: (names[upper], names[lower]) in self.above, GROWTH, scoring), names
+        return LineOrder(lines, lambda upper, lower: (names[upper], names[lower]) in self.above, scoring), names
 
 
 class LineOrderTest(unittest.TestCase):
@@ -229,11 +229,10 @@ class LineOrderTest(unittest.TestCase):
             "static shop/B.b",
         ]
         self.assertEqual(self.sorted(f"all: {store}, static shop/B.b (400)"), [*wanted, "shop/Order.text"])
-        self.assertEqual(LineOrder([], lambda upper, lower: False, GROWTH).sorted(), [])
+        self.assertEqual(LineOrder([], lambda upper, lower: False).sorted(), [])
 
     def test_lasts(self) -> None:
-        """Nothing lasts if no score is a quarter of the growth, or of what lines gained if that is less, as of one
-        dump: the answer is then the topmost line."""
+        """Nothing lasts if no score is a quarter of the most that a line gained: the answer is then the topmost one."""
         for row, wanted in (
             ("static shop/A.a (249)", True),
             ("static shop/A.a (250), shop/Order.text (10..110)", True),
@@ -243,14 +242,14 @@ class LineOrderTest(unittest.TestCase):
         ):
             order, _ = Row.of(f"lasts: *{row}").order()
             self.assertEqual(order.lasts(), wanted, row)
-        self.assertTrue(LineOrder([], lambda upper, lower: False, GROWTH).lasts())
+        self.assertTrue(LineOrder([], lambda upper, lower: False).lasts())
 
     def test_nearly_the_same(self) -> None:
         """Each of two lines that hold nearly the same holds the other: that which holds less is below."""
         deepest = "static shop/A.STORE > *shop/Store.map"
         topmost = "*shop/Session.orders (9..99) > shop/Order.text (10..110)"
         for row in (Row.of(f"deepest: {deepest}"), Row.of(f"topmost: {topmost}")):
-            order = LineOrder(row.lines, lambda upper, lower: True, GROWTH)
+            order = LineOrder(row.lines, lambda upper, lower: True)
             self.assertEqual(row.lines[order.sorted()[0]].name, row.answer, row.why)
 
     def test_larger_asked_first(self) -> None:
@@ -262,7 +261,7 @@ class LineOrderTest(unittest.TestCase):
             asked.append((upper, lower))
             return upper < lower
 
-        self.assertEqual(LineOrder(row.lines, holds, GROWTH).answer(), 1)
+        self.assertEqual(LineOrder(row.lines, holds).answer(), 1)
         self.assertEqual([each for each in asked if each[0] > each[1]], [])
 
     def test_to_ask(self) -> None:
@@ -285,7 +284,7 @@ class LineOrderTest(unittest.TestCase):
         self.assertEqual(
             [names[number] for number in order.to_ask()], ["shop/D.d", "shop/C.c", "java/lang/L.l", "static shop/A.a"]
         )
-        self.assertEqual(LineOrder([], lambda upper, lower: False, GROWTH).to_ask(), [])
+        self.assertEqual(LineOrder([], lambda upper, lower: False).to_ask(), [])
 
     def test_to_ask_of_elements(self) -> None:
         """What elements of the answer's container gained is asked of fields below it that gained most of what it did,
@@ -308,7 +307,7 @@ class LineOrderTest(unittest.TestCase):
         for above in ("two (together)", 'thread "main"', "local shop/Main.run"):
             order, _ = Row.of(f"none: *{above} > shop/Node.edges (9..99)").order()
             self.assertEqual(order.to_ask_of_elements(), [], above)
-        self.assertEqual(LineOrder([], lambda upper, lower: False, GROWTH).to_ask_of_elements(), [])
+        self.assertEqual(LineOrder([], lambda upper, lower: False).to_ask_of_elements(), [])
 
     def test_evenness(self) -> None:
         """Steps are even that are the same, or the same per time. One that is no gain is none; three jumps that happen
@@ -348,7 +347,7 @@ class LineOrderTest(unittest.TestCase):
             order, names = Row.of(f"asked: {text}").order()
             found = order.to_ask_of_new()
             self.assertEqual(None if found is None else names[found], asked, text)
-        self.assertIsNone(LineOrder([], lambda upper, lower: False, GROWTH).to_ask_of_new())
+        self.assertIsNone(LineOrder([], lambda upper, lower: False).to_ask_of_new())
 
     def test_part_gained(self) -> None:
         """What moved is seen by the class of which most was gained above, too."""
