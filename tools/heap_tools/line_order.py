@@ -168,7 +168,7 @@ class LineOrder:
         lines, least = self.lines, MOST * self.lines[answer].gain
         found = [it for it in self.numbers if lines[it].gain >= least and self._has_objects(it)]
         found = [it for it in found if it == answer or self._is_below(it, answer)]
-        found.sort(key=lambda it: (-max(says(lines[it]), 1), lines[it].with_value))
+        found.sort(key=lambda it: (-says(lines[it]), lines[it].with_value))
         return [*found[:MOST_ASKED], *([] if answer in found else [answer])]
 
     def to_ask_of_elements(self) -> List[int]:
