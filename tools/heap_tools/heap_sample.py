@@ -20,7 +20,7 @@ from heap_tools.parallel import shared
 from heap_tools.span_order import ASCENDING, SpanOrder
 
 #: How many objects a sample has, about: enough that the classes which matter are in it.
-SAMPLED = 100_000
+SAMPLED = 200_000
 #: How many times as many objects as a rough sample has, which is enough to see the layout.
 ROUGH = 5
 #: In how many parts of the file the sample is taken. The first and the last are longer: they have the objects of the
