@@ -212,9 +212,9 @@ def kept(joints: Sequence[Joint]) -> List[int]:
 
 
 def deepened(probe: Probe, group: Several) -> Several:
-    """Returns a group in which fields below them are in the places of its members, if these gained nearly as much: what
-    leads to three tables says less than these. Asks once for all fields that may be in a place, and once for those that
-    can be, together."""
+    """Returns a group in which fields below them are in the places of its members, if these gained nearly as much, and
+    each of them is needed: what leads to three tables says less than these. Asks once for all fields that may be in a
+    place, and once for those that can be, together."""
     least = NEARLY * probe.unit.of(probe.gain(group))
     lower = {each.key: below(probe, each) for each in group if len(group) <= MOST_NEEDED}
     every = [(each, it, in_place_of(group, each, it)) for each in group for it in lower.get(each.key, ())]
@@ -226,7 +226,8 @@ def deepened(probe: Probe, group: Several) -> Several:
             deepest[number] = min(deepest[number], changed[number], key=lambda it: probe.retained([it]).heap.objects)
     if key_of(deepest) == key_of(group) or len(key_of(deepest)) < len(group):
         return group
-    return deepest if probe.unit.of(probe.gain(deepest)) >= least else group
+    is_enough = probe.unit.of(probe.gain(deepest)) >= least
+    return deepest if is_enough and len(with_effect(probe, deepest)) == len(deepest) else group
 
 
 def below(probe: Probe, upper: Candidate) -> List[Candidate]:

@@ -139,7 +139,7 @@ class Lines:
         above = [it for it in self.found if is_field(it) and it.instances > 1 and it.heap.objects >= least]
         for upper in sorted(above, key=lambda it: it.heap.objects):
             for only in self.uses.of(held.candidates[0]).values:
-                found = object_leading_to(self.probe, upper, only.instance, held.amount, self.uses)
+                found = object_leading_to(self.probe, upper, only.instance, self.uses)
                 if found and found.names:
                     return LineObjects(upper, [found])
         return None

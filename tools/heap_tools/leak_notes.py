@@ -20,7 +20,8 @@ from heap_tools.which_object import hidden, sentence
 
 #: What is said of lines that are not `LineOrder.lasts`: the first one may be threads that leak, or any payload.
 NOTHING_LASTS = (
-    "nothing that lasts holds a quarter of what grew: only new objects do, and line 1 is the topmost of these"
+    "nothing that lasts holds a quarter of what grew, alone or with two others: only new objects do, and line 1 is the "
+    "topmost of these"
 )
 #: How many patterns of names of threads are said, how many kinds of loaders, and how many classes that grew.
 PATTERNS = 3

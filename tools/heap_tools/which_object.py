@@ -189,14 +189,16 @@ def ways(probe: Probe, held: Retained, uses: Optional[FieldUses]) -> Iterator[Pa
 
 
 def object_leading_to(
-    probe: Probe, held: Retained, at: int, amount: Amount, uses: Optional[FieldUses] = None
+    probe: Probe, held: Retained, at: int, uses: Optional[FieldUses] = None
 ) -> Optional[HoldingObject]:
-    """Returns the one of the objects by which `held` holds what it does that leads straight to the object at `at`,
-    which holds `amount`, None if it is no question. `uses` may know the values of the field."""
+    """Returns the one of the objects by which `held` holds what it does that leads straight to the object at `at`, None
+    if it is no question. `uses` may know the values of the field."""
     parts = PartsOfField(probe, held, uses=uses)
     target, id_at = probe.runs.dump.id(at + 1), probe.runs.dump.id
     found = [each for each in parts.parts.values if id_at(each.value) == target] if parts.is_question else []
-    return parts.described([Holding(found[0], amount)], held.amount)[0] if len(found) == 1 else None
+    if len(found) != 1:
+        return None
+    return parts.described([Holding(found[0], parts.shares.amount(found[0]))], held.amount)[0]
 
 
 def objects_with_most(probe: Probe, held: Retained, uses: Optional[FieldUses] = None) -> List[HoldingObject]:

@@ -190,7 +190,8 @@ class LeaksTest(ToolTest):
         said = self.ran("--html", "page.html", "before", "after").said
         self.assertIn('leaks: 10 threads more: threads "report-*": 2, then 12; most are in shop/Reporter.run\n', said)
         words = (
-            "nothing that lasts holds a quarter of what grew: only new objects do, and line 1 is the topmost of these"
+            "nothing that lasts holds a quarter of what grew, alone or with two others: only new objects do, and line "
+            "1 is the topmost of these"
         )
         self.assertIn(f"leaks: {words}\n", said)
         self.assertNotIn("nothing that lasts", self.ran("monday", "friday").said)

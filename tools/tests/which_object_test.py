@@ -286,21 +286,21 @@ class HoldsTest(unittest.TestCase):
             self.assertEqual(len(self.holding(dump, field)), wanted)
 
     def test_leading(self) -> None:
-        """The one of several objects that leads straight to an object is named without a run; it is no question if
-        several do, none, or if there is only one."""
+        """The one of several objects that leads straight to an object is named, with all that it holds; it is no
+        question if several do, none, or if there is only one."""
         dump = Queues([7, 9_000, 8], sharing=[0, 2])
         probe = probe_of(dump)
         held = held_by(probe, CONTENT)
-        places, runs = HeapObjects(probe.runs.dump).places_of([200, 30_000, 30_001]), RETAINED.runs
-        found = object_leading_to(probe, held, places[30_001], Amount(1, 9_000))
+        places = HeapObjects(probe.runs.dump).places_of([200, 30_000, 30_001])
+        found = object_leading_to(probe, held, places[30_001])
         assert found
         self.assertEqual(str(found), 'shop/Queue (its field name "queue 1"): 100%')
-        self.assertEqual((found.amount, found.of, RETAINED.runs), (Amount(1, 9_000), 3, runs))
+        self.assertEqual((found.amount, found.of), (Amount(1, 9_000), 3))
         for number in (200, 30_000):
-            self.assertIsNone(object_leading_to(probe, held, places[number], Amount(1, 9_000)))
+            self.assertIsNone(object_leading_to(probe, held, places[number]))
         only = probe_of(Queues([9_000]))
         at = HeapObjects(only.runs.dump).places_of([30_000])[30_000]
-        self.assertIsNone(object_leading_to(only, held_by(only, CONTENT), at, Amount(1, 9_000)))
+        self.assertIsNone(object_leading_to(only, held_by(only, CONTENT), at))
 
 
 class GrewTest(unittest.TestCase):
