@@ -50,18 +50,18 @@ def placed_part(dump: HeapDump, span: Span) -> PlacedPart:
     """Returns the identifiers of the objects in a part of the file, and where they are. This is `heap_objects` once
     more, since a walk that yields every object takes twice the time."""
     data, size, sizes, (at, end) = dump.bytes, dump.id_size, dump.value_sizes, span
-    instance, array, primitive = _heads(size)
+    instance, array, primitive = _heads(size, has_class=False)
     head, identifiers, places = 9 + 2 * size, packed("Q"), packed("Q")
     while at < end:
         tag, begin = data[at], at
         if tag == hprof.INSTANCE:
-            identifier, _, length = instance(data, at + 1)
+            identifier, length = instance(data, at + 1)
             at += head + length
         elif tag == hprof.PRIMITIVE_ARRAY:
             identifier, length, kind = primitive(data, at + 1)
             at += 10 + size + length * sizes[kind]
         elif tag == hprof.OBJECT_ARRAY:
-            identifier, length, _ = array(data, at + 1)
+            identifier, length = array(data, at + 1)
             at += head + length * size
         else:
             at = _end_of_other(dump, tag, at)
@@ -76,7 +76,7 @@ def placed_objects(dump: HeapDump, spans: Iterable[Span]) -> Dict[int, "packed[i
     references, but empty ones, and class dumps. This is the third walk, since a function called for each object would
     take twice the time."""
     data, size, sizes = dump.bytes, dump.id_size, dump.value_sizes
-    instance, array, primitive = _heads(size)
+    instance, array, primitive = _heads(size, has_identifier=False)
     head, number = 9 + 2 * size, "I" if dump.size < 1 << 32 else "Q"
     found: DefaultDict[int, "packed[int]"] = defaultdict(lambda: packed(number))
     others = found[0]
@@ -84,14 +84,14 @@ def placed_objects(dump: HeapDump, spans: Iterable[Span]) -> Dict[int, "packed[i
         while at < end:
             tag = data[at]
             if tag == hprof.INSTANCE:
-                _, class_id, length = instance(data, at + 1)
+                class_id, length = instance(data, at + 1)
                 found[class_id].append(at)
                 at += head + length
             elif tag == hprof.PRIMITIVE_ARRAY:
-                _, length, kind = primitive(data, at + 1)
+                length, kind = primitive(data, at + 1)
                 at += 10 + size + length * sizes[kind]
             elif tag == hprof.OBJECT_ARRAY:
-                length = array(data, at + 1)[1]
+                length, _ = array(data, at + 1)
                 if length:
                     others.append(at)
                 at += head + length * size
@@ -102,11 +102,13 @@ def placed_objects(dump: HeapDump, spans: Iterable[Span]) -> Dict[int, "packed[i
     return dict(found)
 
 
-def _heads(size: int) -> List[Callable[..., Tuple[int, ...]]]:
+def _heads(size: int, has_identifier: bool = True, has_class: bool = True) -> List[Callable[..., Tuple[int, ...]]]:
     """Returns what unpacks the heads of records from the identifier on: of an instance that and the class and the bytes
-    of fields, of an array of references the length and the class, of another array the length and the type."""
+    of fields, of an array of references the length and the class, of another array the length and the type. What a walk
+    does not need is left out, since each number takes a tenth of its time."""
     number = "Q" if size == 8 else "I"
-    every = f">{number}4x{number}I", f">{number}4xI{number}", f">{number}4xIB"
+    identifier, of_class = (number if it else f"{size}x" for it in (has_identifier, has_class))
+    every = f">{identifier}4x{of_class}I", f">{identifier}4xI{of_class}", f">{identifier}4xIB"
     return [struct.Struct(each).unpack_from for each in every]
 
 
