@@ -87,6 +87,7 @@ class PackageTest(unittest.TestCase):
         cls.room = tempfile.TemporaryDirectory()
         cls.made = pathlib.Path(cls.room.name, "made")
         cls.environment = {key: value for key, value in os.environ.items() if key != "HEAPMARK"}
+        cls.environment["PYTHONDONTWRITEBYTECODE"] = "1"
         cls.ended = cls.packed(cls.made, BINARY)
 
     @classmethod
