@@ -1,6 +1,6 @@
 """The objects of many by which a field holds what it holds: the instances that have it, or the elements of its list."""
 
-from typing import Dict, Iterable, List, NamedTuple, Optional, Sequence, Set
+from typing import Dict, Iterable, List, NamedTuple, Optional, Sequence, Set, Tuple
 
 from heap_tools import hprof_format as hprof
 from heap_tools.candidates import FIELD, Candidate
@@ -8,6 +8,8 @@ from heap_tools.field_values import FieldValues, values_by_field
 from heap_tools.heap_objects import FieldValue, HeapObjects
 from heap_tools.map_entries import MapEntries
 from heap_tools.object_names import OTHERS
+from heap_tools.object_shares import ObjectShares
+from heap_tools.probe import Probe
 
 #: Among how many objects it is asked at most which hold most: more of them would make each run read too many changes.
 MOST_OBJECTS = 100_000
@@ -27,12 +29,13 @@ class Parts(NamedTuple):
 class FieldUses:
     """Knows which instances of a dump have a value in a field, of each field some more than may be looked into at most.
     The values in `fields` are read in one walk over all objects, when one of them is asked for; those in another field
-    take a walk of their own."""
+    take a walk of their own. What the instances of a field hold by it is asked once of each probe."""
 
     def __init__(self, objects: HeapObjects, fields: Iterable[Candidate] = ()) -> None:
         self.objects = objects
         self._together = {each.name for each in fields}
         self._known: Dict[str, FieldValues] = {}
+        self._shares: Dict[Tuple[Probe, str], ObjectShares] = {}
 
     def _values_of(self, field: Candidate) -> FieldValues:
         if field.name not in self._known:
@@ -55,6 +58,13 @@ class FieldUses:
             return Parts([])
         found = self._values_of(field)
         return Parts(found.values, found.nulls)
+
+    def shares(self, probe: Probe, field: Candidate) -> ObjectShares:
+        """Returns what each instance holds by `field`, for which `probe` asks."""
+        key = probe, field.name
+        if key not in self._shares:
+            self._shares[key] = ObjectShares(probe, self.of(field).values)
+        return self._shares[key]
 
 
 def elements(objects: HeapObjects, lists: Set[int], most: Optional[int] = None, unresolved: int = 0) -> Parts:

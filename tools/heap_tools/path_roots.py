@@ -13,7 +13,6 @@ from heap_tools.heap_objects import FieldValue, HeapObjects
 from heap_tools.label_text import Place, in_class, in_root
 from heap_tools.line_order import NEARLY
 from heap_tools.object_parts import MOST_OBJECTS, FieldUses
-from heap_tools.object_shares import ObjectShares
 from heap_tools.probe import Probe, Retained
 from heap_tools.referrers import MOST_OWNERS, Referrer, Referrers
 from heap_tools.thread_counts import shown_name
@@ -88,7 +87,7 @@ class PathRoots:
         values = self.uses.of(field).values
         if len(values) == 1 or len(values) > MOST_OBJECTS:
             return values[:1] if len(values) == 1 else ()
-        shares, unit = ObjectShares(self.probe, values), self.probe.unit
+        shares, unit = self.uses.shares(self.probe, field), self.probe.unit
         found, held = [], 0
         for value in (values[number] for number in shares.heavy[:MOST_OWNERS]):
             found.append(value)

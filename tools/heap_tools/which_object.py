@@ -105,7 +105,8 @@ class PartsOfField:
         self.probe, self.held = probe, held
         self.objects = HeapObjects(probe.runs.dump)
         self._shares: Optional[ObjectShares] = None
-        field, uses = held.candidates[0], uses or FieldUses(self.objects)
+        field = held.candidates[0]
+        self._uses = uses = uses or FieldUses(self.objects)
         if as_elements:
             lists = {uses.only_target(field)} if field.kind == FIELD else probe.candidates.values_of_static(field.key)
             self.parts = elements(self.objects, lists, most, probe.runs.report.unresolved)
@@ -129,6 +130,8 @@ class PartsOfField:
     @property
     def shares(self) -> ObjectShares:
         """What each of them holds."""
+        if not self.parts.are_elements:
+            return self._uses.shares(self.probe, self.held.candidates[0])
         self._shares = self._shares or ObjectShares(self.probe, self.parts.values)
         return self._shares
 

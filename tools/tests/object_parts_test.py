@@ -11,6 +11,7 @@ from heap_tools.heap_objects import HeapObjects
 from heap_tools.object_parts import FieldUses, elements
 from tests.support.dump_writer import BYTE, DumpWriter
 from tests.support.laid_out_heap import read
+from tests.support.marked import RETAINED, probe_of
 
 
 class UsesTest(unittest.TestCase):
@@ -36,6 +37,22 @@ class UsesTest(unittest.TestCase):
             self.assertEqual(([uses.only_target(room), uses.count(room)], walk.call_count), ([9, 1], 2))
         ((instance, value, _),), (other,) = uses.of(mails[0]).values, uses.of(mails[0]).others
         self.assertEqual([found.id(at) for at in (instance + 1, value, other + 1)], [1000, 7, 1001])
+
+    def test_shares(self) -> None:
+        """What the instances of a field hold by it is asked once of each probe."""
+        dump = DumpWriter()
+        dump.of_class(1, "shop/Mail", {"ALL": 1000}, fields=["text"])
+        dump.instance(1000, 1, 8)
+        dump.values(8, BYTE, bytes(5))
+        dump.root(1)
+        first, other = (probe_of(dump) for _ in range(2))
+        uses, text = FieldUses(HeapObjects(first.runs.dump)), Candidate(FIELD, "shop/Mail.text", 1)
+        before = RETAINED.runs
+        shares = uses.shares(first, text)
+        self.assertEqual(first.unit.of(shares.together), 5)
+        self.assertIs(uses.shares(first, text), shares)
+        self.assertEqual(RETAINED.runs, before + 1)
+        self.assertIsNot(uses.shares(other, text), shares)
 
 
 class ElementsTest(unittest.TestCase):
