@@ -289,10 +289,12 @@ class Candidates:
         return [each for each in [*statics, *self.locals(), *threads, *fields] if not each.is_of_machine]
 
     def kin(self) -> Dict[Key, List[Candidate]]:
-        """Returns the fields that each class declares, and likewise the static fields, by kind and class."""
+        """Returns the fields that each class declares, and likewise the static fields, by kind and class, without those
+        that the virtual machine keeps with a class."""
         found: Dict[Key, List[Candidate]] = {}
         for each in [*self.statics(), *self.every_field()]:
-            found.setdefault((each.kind, each.owner), []).append(each)
+            if not each.is_of_machine:
+                found.setdefault((each.kind, each.owner), []).append(each)
         return found
 
     def units(self) -> Dict[str, List[Candidate]]:

@@ -65,10 +65,16 @@ class JointSearch:
         return []
 
     def _related(self, group: Several) -> List[Candidate]:
-        """Returns a group without threads that hold mostly alone what they add to it."""
+        """Returns a group without threads that hold mostly alone what they add to it, nor what adds nothing to what it
+        gained: what that held alone before, all hold now."""
         of, gain = self.probe.unit.of, self.probe.gain
         adds = {each.key: of(gain(group)) - of(gain([it for it in group if it is not each])) for each in group}
-        return [it for it in group if not it.is_thread or of(gain([it])) < MOST * adds[it.key] or len(group) == 1]
+        left = [it for it in group if not it.is_thread or of(gain([it])) < MOST * adds[it.key] or len(group) == 1]
+        for each in group:
+            rest = [it for it in left if it is not each]
+            if rest and of(gain(rest)) >= of(gain(left)):
+                left = rest
+        return left
 
     def preference(self, group: Several, joint: Joint) -> Tuple[int, ...]:
         """Returns what the best ones are the smallest by: how many are not own, of how many classes they are, how many
@@ -90,19 +96,26 @@ class JointSearch:
         return found
 
     def _joints(self, blocks: Sequence[Several]) -> List[Joint]:
-        """Asks what all blocks, pairs and triples hold only together, in one run for each dump. The fewest come first.
-        Tables of single candidates are kept, with what the probe keeps: what is found is one of their groups."""
+        """Asks what all blocks, pairs and triples hold only together, in one run for each dump, unless it is known. The
+        fewest come first. Tables of single candidates are kept, with what the probe keeps: what is found is one of
+        their groups."""
         several = [each for count in range(MOST_NEEDED) for each in combinations(range(len(blocks)), count + 1)]
+        every = [[each for number in numbers for each in blocks[number]] for numbers in several]
+        if not self._alone and self.probe.knows(every):
+            return [self._known_joint(numbers, group) for numbers, group in zip(several, every)]
         sides, others = self.probe.sides(), self.probe.kept
         tables = ask_places([(side, self._places(side, blocks, several)) for side in sides])
         if max(map(len, blocks)) == 1:
-            groups = [*([blocks[number][0] for number in each] for each in several), *others]
             for side, table in zip(sides, tables):
-                side.keep(table, groups)
+                side.keep(table, [*every, *others])
         labels = len(several) + len(others)
         now, *before = (self._held_together(side, table, labels) for side, table in zip(sides, tables))
         gains = [held - sum(was[number][0] for was in before) for number, (held, _) in enumerate(now)]
         return [Joint(each, gain, objects) for each, gain, (_, objects) in zip(several, gains, now)]
+
+    def _known_joint(self, numbers: Tuple[int, ...], group: Several) -> Joint:
+        """Returns some blocks of which it is known what they hold together."""
+        return Joint(numbers, self.probe.unit.of(self.probe.gain(group)), self.probe.retained(group).heap.objects)
 
     def _places(
         self, side: DumpSide, blocks: Sequence[Several], several: Sequence[Tuple[int, ...]]
@@ -149,6 +162,21 @@ def joint_answers(
     asked."""
     kin = kin_with(probe, at_least, explained, candidates)
     found = [needed_of(probe, at_least, each) or with_effect(probe, each) for each in kin]
+    return with_any(probe, at_least, found, candidates, known)
+
+
+def joint_roots(probe: Probe, at_least: float, roots: Several, known: Several) -> Sequence[Several]:
+    """Returns which of some roots gained `at_least` percent of the growth together: static fields of one class, of
+    which most is known; if these leave as much, any. `known` is that of `joint_answers`."""
+    kin = [needed_of(probe, at_least, each) for each in kin_with(probe, at_least, [], roots)]
+    return with_any(probe, at_least, [each for each in kin if each], roots, known)
+
+
+def with_any(
+    probe: Probe, at_least: float, found: List[Several], candidates: Several, known: Several
+) -> Sequence[Several]:
+    """Returns what was found, and if that leaves as much, those of `candidates` that hold enough only together, each
+    with the deepest fields in its place."""
     least = at_least * probe.unit.of(probe.growth) / 100
     if probe.unit.of(probe.gain_beside(known, [*alone(known), *found])) >= least:
         found += [each for each in [JointSearch(probe, at_least, candidates).find()] if each]

@@ -13,15 +13,23 @@ from heap_tools.dump_side import GroupKey, Several
 from heap_tools.element_counts import element_counts
 from heap_tools.leak_lines import Line, Ranking, ranking_of, searched
 from heap_tools.leak_options import Bounds
-from heap_tools.probe import Between, GrowthProbe, Probe, RunningCalls, nothing_between
+from heap_tools.probe import Between, GrowthProbe, Probe, Retained, RunningCalls, nothing_between
 from heap_tools.reports import Amount
 from heap_tools.search import Search
+
+
+class Beside(NamedTuple):
+    """What gained something that no line holds, and which share of all that is asked for that is, in percent."""
+
+    held: Retained
+    share: float
 
 
 class Answer(NamedTuple):
     """The lines, how many more there are if all are shown, what was looked for first, how much there is of what is
     asked for, of which shares are, and how much of that no line holds. `lasts`: something that lasts holds what the
-    first line does, not only new objects. `is_above`: what is above a line holds as much of the rest as a line must."""
+    first line does, not only new objects. `is_above`: what is above a line holds as much of the rest as a line must.
+    `beside`: what gained as much beside all lines, though too little is left, since something else shrank."""
 
     lines: List[Line]
     hidden: int
@@ -30,6 +38,7 @@ class Answer(NamedTuple):
     left: Amount
     lasts: bool
     is_above: bool = False
+    beside: Optional[Beside] = None
 
     @property
     def left_percent(self) -> float:
@@ -77,7 +86,7 @@ def one_by_one(
         probe = calls.without(found.cut)
         if not found.is_little(probe.growth):
             found.add(found.ranked(probe, calls.between), calls.between)
-    return Answer(found.lines, 0, search, whole, found.left, first.is_lasting, found.is_above)
+    return Answer(found.lines, 0, search, whole, found.left, first.is_lasting, found.is_above, found.beside(search))
 
 
 class LinesInTurn:
@@ -98,7 +107,10 @@ class LinesInTurn:
 
     def is_little(self, amount: Amount) -> bool:
         """Tests whether an amount is too little for a line."""
-        return self.asked.unit.percent(amount, self.of) < self.bounds.others
+        return self._share(amount) < self.bounds.others
+
+    def _share(self, amount: Amount) -> float:
+        return self.asked.unit.percent(amount, self.of)
 
     def add(self, found: Ranking, between: Between) -> None:
         """Adds the answer as a line, then that to what it leaves open, and so on: of those after the first what
@@ -110,6 +122,17 @@ class LinesInTurn:
             if self.is_done or self.is_little(probe.growth.minus(probe.gain(group))):
                 break
             found = self.ranked(probe.without(group), between)
+
+    def beside(self, first: Search) -> Optional[Beside]:
+        """Returns what gained most that no line holds, of what was found first, if that is as much as a line must hold,
+        but too little is left: something else shrank. What would have to be asked for is left out."""
+        if not self.lines or not self.is_little(self.left):
+            return None
+        probe, lines = first.probe, [line.held.candidates for line in self.lines]
+        known = [held for held in first.found if probe.knows_together([held.candidates, *lines])]
+        every = [Beside(it, self._share(probe.gain_beside(it.candidates, lines))) for it in known]
+        most = max(every, key=lambda it: it.share, default=None)
+        return most if most and most.share >= self.bounds.others else None
 
     def ranked(self, probe: Probe, between: Between) -> Ranking:
         """Returns what holds as much as a line must of what the lines leave, for which `probe` asks."""

@@ -13,7 +13,7 @@ from heap_tools.lasting_elements import LastingElements
 from heap_tools.line_features import Features, evenness
 from heap_tools.line_order import CHAIN, HARDLY_ANY, MOST, MOST_ASKED, NEARLY, LineOrder, Scoring
 from heap_tools.object_parts import MOST_OBJECTS, FieldUses
-from heap_tools.joint_search import by_amount, deepened, joint_answers
+from heap_tools.joint_search import by_amount, deepened, joint_answers, joint_roots
 from heap_tools.path_roots import PathRoots, RootsAbove
 from heap_tools.probe import GrowthProbe, Probe, Retained
 from heap_tools.reference_paths import ReferencePaths, is_root
@@ -288,14 +288,19 @@ def searched(probe: Probe, at_least: float) -> Search:
     has_statics = isinstance(probe, GrowthProbe)
     find_joint(search, [each for each in left if each.kind != STATIC or has_statics], few)
     if not any(map(is_root, search.found)):
-        find_joint(search, roots_of(left), roots_of(few))
+        add_joint(search, joint_roots(probe, at_least, roots_of(left), roots_of(few)))
     return search
 
 
 def find_joint(search: Search, candidates: Several, known: Several) -> None:
     """Adds those of `candidates` that hold enough only together. It was asked what all of `known` hold."""
     explained = [held.candidates for held in search.found if explains(held)]
-    for group in joint_answers(search.probe, search.at_least, explained, candidates, known):
+    add_joint(search, joint_answers(search.probe, search.at_least, explained, candidates, known))
+
+
+def add_joint(search: Search, found: Sequence[Several]) -> None:
+    """Adds groups to what a search has found, each once."""
+    for group in found:
         if key_of(group) not in {held.key for held in search.found}:
             search.found.append(search.probe.retained(group)._replace(candidates=group))
 

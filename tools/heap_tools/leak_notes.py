@@ -117,6 +117,9 @@ def rest_words(answer: Answer, bounds: Bounds, whole: str) -> List[str]:
     if answer.hidden:
         hold = "holds" if answer.hidden == 1 else "hold"
         return [f"{answer.hidden} more {hold} {bounds.first}% or more: see --top"]
+    if answer.beside:
+        name, share = joint_name(answer.beside.held.candidates), answer.beside.share
+        return [f"beside the lines, {name} gained {share:.0f}% of {whole}, while as much was lost elsewhere: see --all"]
     if bounds.shows_all or answer.left_percent < bounds.others:
         return []
     left = f"{answer.left_percent:.0f}% of {whole} are in no line"

@@ -3,13 +3,13 @@
 A line's score is what it gained without what came with new instances (unless they are classes alike, one object gained
 most, or elements that the answer had before), without what was above it, below it or in a field of its class before,
 and nothing if it did not grow at each step between dumps. Lines that gained unevenly come later: scores are compared
-without the part of the gain by which the largest step exceeds the smallest, as they are or per time, but with a quarter
-at least. If no score is a quarter of the most that a line gained, nothing that lasts holds what grew: the answer is the
-topmost line. Else the answer is the deepest line on the path of the best score, above or below it, that has half of
-that score: the accumulation point. A collection, several of the JDK or with a thread together, a variable of a lambda
-or a thread is the answer only if no other line on that path has that much; and own fields, and those of which one
-object gained most, come before those of the JDK, and these before several together. The other lines follow by their
-scores.
+without the part of the gain by which the largest step exceeds the smallest, as they are or per time. If no score is a
+quarter of the most that a line gained, nothing that lasts holds what grew: the answer is the topmost line. Else the
+answer is the deepest line on the path of the best score, above or below it, that has half of that score: the
+accumulation point. A collection, several of the JDK or with a thread together, a variable of a lambda or a thread is
+the answer only if no other line on that path has that much, and a collection only if none below it has a quarter, else
+the best of these begins the path instead; and own fields, and those of which one object gained most, come before those
+of the JDK, and these before several together. The other lines follow by their scores.
 """
 
 import enum
@@ -25,9 +25,6 @@ MOST = 0.5
 NEARLY = 0.9
 #: The part of the largest gain that the best score must be: with less, too little is in what was there before.
 LASTS = 0.25
-#: The part of its score that a line keeps, however uneven its steps are: a leak may gain most in one busy step. The
-#: steps of a cache that happens to hold more in each of three or four dumps differ by half of its gain, on average.
-UNEVEN = 0.25
 #: The part of what a line holds that it may have held before, if it is asked whether that was beside it.
 HARDLY_ANY = 0.1
 #: The part of its instances that a field must hold to be a chain, and that must have a value in it: each leads to the
@@ -156,7 +153,16 @@ class LineOrder:
         """Returns the deepest line above or below `best` that has most of its score, of those whose names say most."""
         near = [it for it in self.numbers if self.even_scores[it] >= MOST * self.even_scores[best]]
         path = (it for it in near if it == best or self._is_below(it, best) or self._is_below(best, it))
-        return min(path, key=lambda it: (-says(self.lines[it]), *self._depth(it)))
+        answer = min(path, key=lambda it: (-says(self.lines[it]), *self._depth(it)))
+        part = self._largest_part(best) if self.lines[answer].is_collection else None
+        return answer if part is None else self.deepest_with(part)
+
+    def _largest_part(self, best: int) -> Optional[int]:
+        """Returns the line with the best score of those below `best` that say something and have `LASTS` of its score,
+        None if there are none: the field of a collection may hold what several leaks gained."""
+        least, scores = LASTS * self.even_scores[best], self.even_scores
+        parts = [it for it in self.numbers if says(self.lines[it]) and scores[it] >= least and self._is_below(it, best)]
+        return max(parts, key=lambda it: (scores[it], -self.lines[it].heap, self.lines[it].name)) if parts else None
 
     def to_ask(self) -> List[int]:
         """Returns the lines of which it is to be asked whether one object gained most: fields of instances that gained
@@ -212,7 +218,7 @@ class LineOrder:
 
     def _evenness(self, number: int) -> float:
         """Returns the part of its score that a line keeps by how evenly it gained, if some line grew at each step."""
-        return max(UNEVEN, self.lines[number].evenness) if self.some_are_steady else 1.0
+        return self.lines[number].evenness if self.some_are_steady else 1.0
 
     def _is_below(self, lower: int, upper: int) -> bool:
         """Tests whether a line is below another one: of two that hold nearly the same, that which holds less."""

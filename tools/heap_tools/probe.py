@@ -70,15 +70,23 @@ class Probe:
         """Returns what asks the same of what is left without a group: what each candidate holds is known."""
         return Probe(asked_without(self, group)[0], self.families, self.unit, self.growth.minus(self.gain(group)))
 
+    def knows(self, groups: Sequence[Several]) -> bool:
+        """Tests whether it is known of all dumps what each of `groups` holds."""
+        return all(side.knows(key_of(each)) for each in groups for side in self.sides())
+
     def ask(self, groups: Sequence[Several]) -> None:
         """Asks all dumps at once what `groups` hold that are not known."""
-        unknown = [each for each in groups if not all(side.knows(key_of(each)) for side in self.sides())]
+        unknown = [each for each in groups if not self.knows([each])]
         if unknown:
             ask([(side, [*unknown, *self.kept]) for side in self.sides()])
 
+    def knows_together(self, groups: Sequence[Several]) -> bool:
+        """Tests whether each dump has a table that knows all of `groups`."""
+        return all(side.knows(*map(key_of, groups)) for side in self.sides())
+
     def ask_together(self, groups: Sequence[Several]) -> None:
         """Asks all dumps at once for a table that knows all of `groups`, unless each has one."""
-        if not all(side.knows(*map(key_of, groups)) for side in self.sides()):
+        if not self.knows_together(groups):
             ask([(side, [*groups, *self.kept]) for side in self.sides()])
 
     def retained(self, group: Several) -> Retained:

@@ -101,6 +101,14 @@ class CandidatesTest(unittest.TestCase):
             found = self.candidates(dump).threads_alike()
             self.assertEqual([(each.name, each.count) for each in found], wanted)
 
+    def test_kin(self) -> None:
+        """The static fields of a class, and its fields; not what the virtual machine keeps with a class."""
+        dump = Application()
+        dump.of_class(50, "shop/Kind", {"ONE": 350, "ALL": 351, "<resolved_references>": 352})
+        kin = self.candidates(dump).kin()
+        self.assertEqual(self.named(kin[STATIC, "shop/Kind"]), ["static shop/Kind.ALL", "static shop/Kind.ONE"])
+        self.assertEqual(self.named(kin[FIELD, "shop/Order"]), ["shop/Order.next"])
+
     def classes(self, *names: str, loader: int = 0, field: str = "ALL") -> Application:
         """Returns a dump in which each of some more classes has a static field that is not null."""
         dump = Application()

@@ -2,14 +2,14 @@
 else."""
 
 import unittest
-from typing import List, Sequence, Tuple
+from typing import Iterable, List, Sequence, Tuple
 
 from heap_tools.joint_search import JointSearch, with_effect
 from heap_tools.leak_answer import answer_of
 from heap_tools.leak_options import Bounds
 from heap_tools.reports import Amount
 from tests.support.dump_writer import BYTE, DumpWriter
-from tests.support.marked import growth_of, probe_of
+from tests.support.marked import RETAINED, growth_of, probe_of
 
 
 def shared(parts: Sequence[Tuple[int, str]], grown: bool = True) -> DumpWriter:
@@ -32,6 +32,20 @@ def shared(parts: Sequence[Tuple[int, str]], grown: bool = True) -> DumpWriter:
     return dump
 
 
+def arrays_of(**lists: Iterable[int]) -> DumpWriter:
+    """Returns a dump in which the static field `shop/A.ALL` and so on have arrays of these arrays of 500 bytes each."""
+    numbers = {letter: list(each) for letter, each in lists.items()}
+    dump = DumpWriter(time=60_000 * (1 + sum(map(len, numbers.values()))))
+    dump.of_class(1, "[Ljava/lang/Object;")
+    for at, (letter, each) in enumerate(numbers.items()):
+        dump.of_class(11 + at, f"shop/{letter}", {"ALL": 100 + at})
+        dump.array(100 + at, 1, *each)
+        dump.root(11 + at)
+    for number in set().union(*numbers.values()):
+        dump.values(number, BYTE, bytes(500))
+    return dump
+
+
 class NeededTest(unittest.TestCase):
     """Which of some candidates are found."""
 
@@ -47,6 +61,27 @@ class NeededTest(unittest.TestCase):
         self.assertEqual(self.found((85, "AB"), (3, "ABC"), (10, "ABD")), "ABD")
         self.assertEqual(self.found((40, "AB"), (40, "ABC"), (20, "D")), "ABC")
         self.assertEqual(self.found((9, "AB"), (91, "D")), "")
+
+    def test_known(self) -> None:
+        """Nothing is asked if it is known what all, two and one of some candidates hold, and they count alone."""
+        dumps = [shared([(60, "AB"), (40, "A")], grown) for grown in (False, True)]
+        probe = growth_of(*dumps)
+        both = [each for each in probe.candidates.statics() if each.owner in ("shop/A", "shop/B")]
+        probe.ask_together([both])
+        before = RETAINED.runs
+        self.assertEqual(JointSearch(probe, 70, both, counts_alone=True).find(), both)
+        self.assertEqual(RETAINED.runs, before)
+        JointSearch(probe, 70, both).find()
+        self.assertEqual(RETAINED.runs, before + 2)
+
+    def test_moved(self) -> None:
+        """What held something alone that all hold now adds nothing to the others, which gained as much without it."""
+        moved, common, own = range(2000, 2020), range(3000, 3025), range(4000, 4025)
+        before = arrays_of(A=[], B=[], C=moved, D=[])
+        after = arrays_of(A=[*moved, *common, *own], B=[*moved, *common], C=moved, D=range(5000, 5025))
+        probe = growth_of(before, after)
+        found = JointSearch(probe, 20, probe.candidates.statics()).find()
+        self.assertEqual([each.owner for each in found], ["shop/A", "shop/B"])
 
     def test_thread(self) -> None:
         """A thread that holds alone what it adds to others is none of them."""
@@ -82,6 +117,16 @@ class NeededTest(unittest.TestCase):
 
 class RestTest(unittest.TestCase):
     """What no line has."""
+
+    def test_beside(self) -> None:
+        """A second leak is known that has no line, since as much was lost elsewhere; not what gained less than a line
+        must, nor what is known to be in a line."""
+        for lost, share in ((45, 90), (4, None)):
+            before = arrays_of(A=range(1000, 1010), B=range(2000, 2010), C=range(3000, 3005 + lost))
+            after = arrays_of(A=range(1000, 1060), B=range(2000, 2010 + lost), C=range(3000, 3005))
+            answer = answer_of(growth_of(before, after), Bounds())
+            self.assertEqual([line.path() for line in answer.lines], ["static shop/A.ALL"])
+            self.assertEqual(answer.beside and round(answer.beside.share), share)
 
     def test_above(self) -> None:
         """What the list above a line gained beside it is in no line, which is known."""

@@ -4,8 +4,8 @@ import unittest
 from typing import Dict, List
 from unittest import mock
 
-from heap_tools.candidates import FIELD, Candidate
-from heap_tools.leak_answer import Answer
+from heap_tools.candidates import FIELD, Candidate, joint_name
+from heap_tools.leak_answer import Answer, Beside
 from heap_tools.leak_lines import Line, LineObjects
 from heap_tools.leak_notes import NOTHING_LASTS, PATTERNS, Notes, captured_words, lines_words, notes_of, notes_words
 from heap_tools.leak_notes import own_classes_words, rest_words, without_values
@@ -74,6 +74,10 @@ class LeakNotesTest(unittest.TestCase):
             self.assertEqual(rest_words(answer, of, more), said)
         answer = Answer([OWN], 0, search, Amount(9, 90), Amount(0, 9), True, is_above=True)
         said = ["10% of 18 bytes are in no line: what is above a line holds 10% or more: see --all"]
+        self.assertEqual(rest_words(answer, bounds, more), said)
+        answer = answer._replace(left=Amount(), beside=Beside(OWN.held, 40.4))
+        name = joint_name(OWN.held.candidates)
+        said = [f"beside the lines, {name} gained 40% of 18 bytes, while as much was lost elsewhere: see --all"]
         self.assertEqual(rest_words(answer, bounds, more), said)
 
     def test_nothing_lasts(self) -> None:

@@ -13,7 +13,7 @@ from heap_tools import line_order
 from heap_tools.candidates import FEW, FIELD, LOCAL, STATIC, THREAD, THREADS
 from heap_tools.commands import leaks
 from heap_tools.line_features import Features, evenness
-from heap_tools.line_order import LASTS, MOST, MOST_ASKED, NEARLY, UNEVEN, LineOrder, Scoring, part_gained
+from heap_tools.line_order import LASTS, MOST, MOST_ASKED, NEARLY, LineOrder, Scoring, part_gained
 from tests.support.tool_test import TOP
 
 GROWTH = 1000
@@ -69,7 +69,6 @@ rule 1, it did not grow at each step: static shop/A.a (600 unsteady), *static sh
 rule 1, nothing grew at each step: *static shop/A.a (600 unsteady), static shop/B.b (400 unsteady)
 rule 1, it gained most in one step: static shop/A.a (900 uneven), *static shop/B.b (400)
 rule 1, it gained most in one step, but far more: *static shop/A.a (uneven), static shop/B.b (399)
-rule 1, a quarter of it counts in any case: *static shop/A.a (jump), static shop/B.b (249)
 rule 1, all gained most in one step: *static shop/A.a (900 uneven), static shop/B.b (400 jump)
 rule 1, none grew at each step, and that most: *static shop/A.a (900 unsteady), static shop/B.b (400 unsteady)
 rule 2, nothing lasts: *shop/Session.orders (9..99) > shop/Order.text (10..110)
@@ -124,6 +123,10 @@ rules 3 and 4, several together below several half: two (together) > *fields (50
 rules 3 and 4, several together below several less: *two (together) > fields (499 together)
 rules 3 and 4, a thread and others together above a collection: all (roots) > *java/util/HashMap.table
 rules 3 and 4, below a field of the JDK half: java/lang/Queue.list > *shop/A.a (500)
+rule 4, a part of a collection: java/util/HashMap.table > *shop/A.a (400), java/util/HashMap.table > shop/B.b (300)
+rule 4, the deepest of a part: java/util/HashMap.table > shop/A.a (400) > *shop/C.c (300)
+rule 4, too small a part of a collection: *java/util/HashMap.table > shop/A.a (249)
+rule 4, no part of a thread: *thread "main" > java/lang/Thread.target (400)
 rules 3 and 4, below a collection half: static shop/A.STORE > java/util/HashMap.table > *shop/Tenant.inbox (500)
 """
 #: Rows of one dump.
@@ -367,7 +370,7 @@ class LineOrderTest(unittest.TestCase):
 
     def test_numbers(self) -> None:
         """The numbers that docs/LEAK.md has."""
-        self.assertEqual((MOST, NEARLY, LASTS, UNEVEN, FEW, MOST_ASKED), (0.5, 0.9, 0.25, 0.25, 64, 3))
+        self.assertEqual((MOST, NEARLY, LASTS, FEW, MOST_ASKED), (0.5, 0.9, 0.25, 64, 3))
 
 
 if __name__ == "__main__":
