@@ -17,17 +17,20 @@ from heap_tools.heapmark import Heapmark
 from heap_tools.humanize import counted, more_are
 from heap_tools.leak_options import Options
 from heap_tools.omissions import more_unreachable
-from heap_tools.dump_side import Several, ask
+from heap_tools.plain_dumps import is_dump
+from heap_tools.dump_side import DumpSide, Several, ask
 from heap_tools.probe import GrowthProbe, Probe, RunningCalls
 from heap_tools.reports import Amount, Report, Unit
 from heap_tools.same_program import Taken, other_main, other_program, wrong_order
-from heap_tools.weak_growth import MUCH_WEAKLY_HELD, Followed, followed_of, grown
-from heap_tools.what_counts import PASSING, Way, WhatCounts, side_of, sides_of, without_running_calls
+from heap_tools.weak_growth import MUCH_WEAKLY_HELD, Followed, followed_of
+from heap_tools.what_counts import PASSING, Way, WhatCounts, grown, side_of, sides_of, without_running_calls
 
 #: A dump, or its number.
 Dump = TypeVar("Dump")
 #: How many dumps between the first and the last are asked what the lines hold in them.
 BETWEEN = 3
+#: How many dumps are read at the same time.
+READ_AT_ONCE = 2
 
 
 class NoGrowth(Fault):
@@ -118,13 +121,17 @@ def dumps_of(paths: Sequence[str], heapmark: Heapmark, progress: Progress) -> Li
     seem to be of two programs."""
     dumps: List[DumpRuns] = []
     asked = {0, *spread(range(1, len(paths) - 1), BETWEEN), len(paths) - 1}
-    for number, path in enumerate(paths):
-        progress.show(f"reading dump {number + 1} of {len(paths)}")
-        dumps.append(DumpRuns.of(heapmark, path, "leaks"))
-        if number not in asked:
-            measure(dumps[-1].dump)
-            dumps[-1].dump.forget()
-            forget(path)
+    while len(dumps) < len(paths):
+        begin = len(dumps)
+        some = paths[begin : begin + READ_AT_ONCE]
+        progress.show(f"reading {counted(begin + len(some), 'dump')} of {len(paths)}")
+        # If one is none, the fault of the first that has one is raised.
+        dumps += DumpRuns.of_several(heapmark, some if all(map(is_dump, some)) else some[:1], "leaks")
+        for number in range(begin, len(dumps)):
+            if number not in asked:
+                measure(dumps[number].dump)
+                dumps[number].dump.forget()
+                forget(paths[number])
     require_one_program(dumps)
     return dumps
 
@@ -147,17 +154,50 @@ def require_one_program(dumps: Sequence[DumpRuns]) -> None:
 def comparison_of(dumps: Sequence[DumpRuns], options: Options) -> Comparison:
     """Returns what asks dumps about the growth. Calls that are running do not count, nor do weak references, unless the
     user follows them or those of one kind alone hold most of the growth."""
-    ends, unit = (dumps[0], dumps[-1]), options.unit
-    families = families_asked(options, dumps[-1])
-    counts = WhatCounts(ends)
-    followed, reports = followed_of(counts, families, unit, options.weak)
-    require_more([each.total(families) for each in reports], options)
-    asked = with_growth(reports, with_direct_memory(ends, reports, Asked(families, unit)), dumps)
-    growth = grown(reports, asked.families, asked.unit)
-    # What holds less than at_least percent is no line, and nothing below it is.
-    percent = max(PASSING, options.bounds.first - 1)
-    way = without_running_calls(counts, followed.follows, reports, asked.families, asked.unit, growth, percent)
-    first, last = sides_of(ends, way)
+    counts, asked = WhatCounts((dumps[0], dumps[-1])), Asked(families_asked(options, dumps[-1]), options.unit)
+    return by_usual_way(dumps, counts, asked, options) or by_best_way(dumps, counts, asked, options)
+
+
+def by_usual_way(dumps: Sequence[DumpRuns], counts: WhatCounts, asked: Asked, options: Options) -> Optional[Comparison]:
+    """Returns what asks dumps by a usual way, if that leaves out less than a line must hold. Returns None if not, or if
+    more is to be known of what it leaves out."""
+    if options.weak or options.more_than is not None:
+        return None
+    unseen = min(PASSING, options.bounds.others)
+    way = counts.usual_way(asked.families, asked.unit, unseen, calls_without_line(options))
+    reports = [side.base for side in counts.sides(way)] if way else []
+    if way is None or with_direct_memory(counts.dumps, reports, asked) != asked:
+        return None
+    return _comparison(dumps, counts.sides(way), Followed(), way, asked, reports)
+
+
+def by_best_way(dumps: Sequence[DumpRuns], counts: WhatCounts, asked: Asked, options: Options) -> Comparison:
+    """Returns what asks dumps by that of all ways that is best. Raises `NoGrowth` if nothing grew."""
+    followed, reports = followed_of(counts, asked.families, asked.unit, options.weak)
+    require_more([each.total(asked.families) for each in reports], options)
+    asked = with_growth(reports, with_direct_memory(counts.dumps, reports, asked), dumps)
+    growth, most = grown(reports, asked.families, asked.unit), calls_without_line(options)
+    way = without_running_calls(counts, followed.follows, reports, asked.families, asked.unit, growth, most)
+    return _comparison(dumps, counts.sides(way), followed, way, asked, reports)
+
+
+def calls_without_line(options: Options) -> float:
+    """Returns up to which share in percent running calls may hold what they do: what holds less than line 1 must is no
+    line, and nothing below it is."""
+    return max(PASSING, options.bounds.first - 1)
+
+
+def _comparison(
+    dumps: Sequence[DumpRuns],
+    ends: Sequence[DumpSide],
+    followed: Followed,
+    way: Way,
+    asked: Asked,
+    reports: Sequence[Report],
+) -> Comparison:
+    """Returns what asks dumps, of which the first and the last are `ends` by a way, and have `reports` with running
+    calls, or without them if they hold hardly anything."""
+    first, last = ends
     for each in dumps[1:-1]:
         each.learn(last.written)
     probe = GrowthProbe(first, last, asked.families, asked.unit)

@@ -1,7 +1,8 @@
 """A dump in a plain file: its report, its records, and what its bytes are."""
 
+import contextlib
 import struct
-from typing import List, Optional
+from typing import List, Optional, Sequence
 
 from heap_tools.dump_file import FileState, changed, state_of, unchanged, whole_content
 from heap_tools.heap_dump import HeapDump
@@ -44,11 +45,23 @@ class DumpRuns:
     def of(cls, heapmark: Heapmark, path: str, tool: str) -> "DumpRuns":
         """Reads the dump `path` for `tool`. Raises `Fault` if it is no plain dump, if heapmark refuses it, or if its
         records are not as heapmark read them."""
-        require_plain_dump(path, tool)
-        state = state_of(path)
-        with unchanged(path, state):
-            written = heapmark.first_report(path)
-        return cls(heapmark, path, written, read_dump(path, state, written), state=state)
+        (found,) = cls.of_several(heapmark, [path], tool)
+        return found
+
+    @classmethod
+    def of_several(cls, heapmark: Heapmark, paths: Sequence[str], tool: str) -> "List[DumpRuns]":
+        """Reads the dumps at `paths`, of which heapmark makes reports at the same time. Raises `Fault` as `of` does."""
+        for path in paths:
+            require_plain_dump(path, tool)
+        states = [state_of(path) for path in paths]
+        with contextlib.ExitStack() as stack:
+            for path, state in zip(paths, states):
+                stack.enter_context(unchanged(path, state))
+            reports = heapmark.first_reports(paths)
+        return [
+            cls(heapmark, path, written, read_dump(path, state, written), state=state)
+            for path, state, written in zip(paths, states, reports)
+        ]
 
     def in_heap(self, sizes: RowSizes) -> "DumpRuns":
         """Returns the same dump, with reports in bytes of the heap."""

@@ -4,9 +4,9 @@ import contextlib
 import os
 import re
 import sys
-from typing import BinaryIO, Sequence
+from typing import BinaryIO, Dict, List, Sequence
 
-from heap_tools.child_process import Call
+from heap_tools.child_process import Call, Children, Ran
 from heap_tools.console import as_heapmark_spells, is_terminal, say
 from heap_tools.faults import UNREADABLE, WRONG_USE, Fault
 from heap_tools.gzip_dump import readable_name
@@ -50,21 +50,40 @@ class Heapmark(ProvedProgram):
             raise Fault(WRONG_USE, f"{fields}: no list of 1 to 64 fields Class.field with commas between")
 
     def first_report(self, path: str, options: Sequence[str] = (), why: str = "") -> Report:
-        """Returns the report of the dump `path`, and passes messages on. Raises `Fault` if there is no such file, or if
-        the run ends without a report. If heapmark refuses the dump, the fault has its reason, and `why`, and the run
-        does not count."""
-        if path and not os.path.lexists(path):
-            raise Fault(UNREADABLE, f"{path}: no such file")
+        """Returns the report of the dump `path`, as `first_reports` does."""
+        (found,) = self.first_reports([path], options, why)
+        return found
+
+    def first_reports(self, paths: Sequence[str], options: Sequence[str] = (), why: str = "") -> List[Report]:
+        """Returns the reports of the dumps at `paths`, which are made at the same time, and passes messages on. Raises
+        `Fault` if there is no such file, or if a run ends without a report. If heapmark refuses a dump, the fault has
+        its reason, and `why`, and the run does not count."""
+        missing = next((path for path in paths if path and not os.path.lexists(path)), None)
+        if missing:
+            raise Fault(UNREADABLE, f"{missing}: no such file")
+        ended: Dict[int, Ran] = {}
+        with contextlib.ExitStack() as stack, Children() as children:
+            calls = [self._call(path, options, stack) for path in paths]
+            numbers = {self.started(call, children): number for number, call in enumerate(calls)}
+            while len(ended) < len(paths):
+                child, ran = children.next_ended()
+                ended[numbers[child]] = ran
+        return [self._judged(path, calls[number].words[-1], ended[number], why) for number, path in enumerate(paths)]
+
+    def _call(self, path: str, options: Sequence[str], stack: contextlib.ExitStack) -> Call:
+        """Returns how heapmark is called for a dump, whose file `stack` closes if it has to be opened."""
         # To a terminal, heapmark says what to do about a refusal. With options, it then reads the file once more.
         to_terminal = not options or is_terminal(sys.stderr)
-        with contextlib.ExitStack() as stack:
-            name, stdin = readable_name(path), None
-            try:
-                name.encode()
-            except UnicodeEncodeError:  # heapmark takes no such name
-                name, stdin = STANDARD_INPUT, stack.enter_context(opened(path)).fileno()
-            bound = report_bound(os.path.getsize(name) if os.path.isfile(name) else LARGEST_DUMP)
-            ran = self.run(Call([*options, "--", name], bound, stdin, to_terminal=to_terminal))
+        name, stdin = readable_name(path), None
+        try:
+            name.encode()
+        except UnicodeEncodeError:  # heapmark takes no such name
+            name, stdin = STANDARD_INPUT, stack.enter_context(opened(path)).fileno()
+        bound = report_bound(os.path.getsize(name) if os.path.isfile(name) else LARGEST_DUMP)
+        return Call([*options, "--", name], bound, stdin, to_terminal=to_terminal)
+
+    def _judged(self, path: str, name: str, ran: Ran, why: str) -> Report:
+        """Returns the report that the run on the dump `path` printed, which got it as `name`."""
         if ran.status > 0 and any("refused " in line for line in ran.said):
             raise Fault(UNREADABLE, f"{path}: {_reason(ran.said, name)}{why}")
         self.runs += 1

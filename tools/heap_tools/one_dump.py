@@ -1,10 +1,10 @@
 """What fills the heap of one dump: the lines, and what is in the first."""
 
 from dataclasses import dataclass
-from typing import List, Optional
+from typing import List, Optional, Tuple
 
 from heap_tools.class_objects import require_objects
-from heap_tools.comparison import families_asked
+from heap_tools.comparison import calls_without_line, families_asked
 from heap_tools.dump_runs import DumpRuns
 from heap_tools.dump_side import Several
 from heap_tools.heap_dump import HeapDump
@@ -12,7 +12,7 @@ from heap_tools.leak_answer import Answer
 from heap_tools.leak_lines import Line
 from heap_tools.leak_options import Options
 from heap_tools.probe import Probe, Retained, RunningCalls, nothing_between
-from heap_tools.reports import Amount, Row, Unit
+from heap_tools.reports import Amount, Report, Row, Unit
 from heap_tools.weak_growth import Followed, followed_of
 from heap_tools.what_counts import PASSING, Way, WhatCounts, sides_of, without_running_calls
 
@@ -72,14 +72,23 @@ def question_of(runs: DumpRuns, options: Options) -> HeapQuestion:
     """Returns what asks a dump. Calls that are running do not count, nor do weak references, unless the user follows
     them or they hold most. Shares are of all that is reachable."""
     families, unit, counts = families_asked(options, runs), options.unit, WhatCounts([runs])
-    followed, (base,) = followed_of(counts, families, unit, options.weak)
-    if families:
-        require_objects(families[0], runs, base)
-    whole, percent = unit.of(base.total(families)), max(PASSING, options.bounds.first - 1)
-    way = without_running_calls(counts, followed.follows, [base], families, unit, whole, percent)
-    (side,) = sides_of([runs], way)
-    in_calls = base.total(families).minus(side.base.total(families))
+    unseen, most = min(PASSING, options.bounds.others), calls_without_line(options)
+    usual = None if options.weak else counts.usual_way(families, unit, unseen, most)
+    followed, way, base = (Followed(), usual, None) if usual else best_way(counts, families, options)
+    (side,) = counts.sides(way)
+    in_calls = base.total(families).minus(side.base.total(families)) if base else Amount()
     return HeapQuestion(runs, Probe(side, families, unit, runs.report.total(families)), followed, way, in_calls)
+
+
+def best_way(counts: WhatCounts, families: Optional[List[str]], options: Options) -> Tuple[Followed, Way, Report]:
+    """Returns which weak references are followed in a dump, which of all ways is best, and the report with running
+    calls. Raises `Fault` if no object of a class is reachable then that the user asks for."""
+    followed, (base,) = followed_of(counts, families, options.unit, options.weak)
+    if families:
+        require_objects(families[0], counts.dumps[0], base)
+    whole, most = options.unit.of(base.total(families)), calls_without_line(options)
+    way = without_running_calls(counts, followed.follows, [base], families, options.unit, whole, most)
+    return followed, way, base
 
 
 def contents_of(held: Retained, unit: Unit) -> List[Row]:

@@ -6,7 +6,7 @@ from heap_tools.dump_runs import DumpRuns
 from heap_tools.humanize import counted, more_are, size
 from heap_tools.reports import Amount, Report, Unit
 from heap_tools.weak_kinds import WeakKind, handler_words, usual_class
-from heap_tools.what_counts import Way, Weak, WhatCounts
+from heap_tools.what_counts import Way, Weak, WhatCounts, grown
 
 #: The share of the growth, in percent, from which on it is said what is held by weak references alone.
 MUCH_WEAKLY_HELD = 5
@@ -60,13 +60,6 @@ def weak_growth(cut: Sequence[Report], followed: Sequence[Report], families: Opt
     them."""
     *before, last = (weak.total(families).minus(less.total(families)) for less, weak in zip(cut, followed))
     return last.minus(*before[:1] or [Amount()])
-
-
-def grown(reports: Sequence[Report], families: Optional[List[str]], unit: Unit) -> int:
-    """Returns how much more the last dump has of these families than the first, or one dump at all; or of all that is
-    reachable if they are None."""
-    *before, last = (unit.of(each.total(families)) for each in reports)
-    return last - sum(before[:1])
 
 
 def why_followed(kind: WeakKind, amount: Amount, runs: Sequence[DumpRuns]) -> str:

@@ -1,16 +1,18 @@
 """What counts in dumps: which weak references are followed, and whether local variables are.
 
-Calls run while a dump is made, and their local variables lead into what fields hold: they mostly do not count. One run
-for each dump shows what is reachable by each way to count; the next one, what each candidate holds by the way that is
-chosen.
+Calls run while a dump is made, and their local variables lead into what fields hold: they mostly do not count. So it is
+asked at once what each candidate holds if they do not, nor weak references, and if these leave hardly anything out of
+what heapmark found, nothing else is asked. If they do, one run for each dump shows what is reachable by each way to
+count.
 """
 
 import enum
-from typing import List, NamedTuple, Optional, Sequence, Union
+from typing import Dict, List, NamedTuple, Optional, Sequence, Tuple, Union
 
 from heap_tools.candidates import FIELD, WEAK, Candidates
 from heap_tools.dump_runs import DumpRuns
 from heap_tools.dump_side import DumpSide, Several, ask, ask_places
+from heap_tools.held_table import HeldTable
 from heap_tools.label_text import Place, class_of
 from heap_tools.reports import Report, Unit
 from heap_tools.weak_kinds import WeakKind, weak_kind_of
@@ -48,17 +50,49 @@ WAYS_TO_COUNT = [
 ]
 
 
+#: The ways of which one leaves hardly anything out in most dumps.
+USUAL_WAYS = [Way(calls=calls) for calls in Calls]
+
+
 class WhatCounts:
-    """Some dumps, and what is reachable in them by each way to count: one run for each dump shows it."""
+    """Some dumps, and what is reachable in them by each way to count. `sides` has those that were asked by a way what
+    each candidate holds."""
 
     def __init__(self, dumps: Sequence[DumpRuns]) -> None:
         self.dumps = dumps
-        self._sides = [side_of(each, Way(Weak.ALL)) for each in dumps]
-        self._tables = ask_places([(side, [cut_by(side, way) for way in WAYS_TO_COUNT]) for side in self._sides])
+        self._asked: Dict[Way, List[DumpSide]] = {}
+        self._tables: List[Tuple[DumpSide, HeldTable]] = []
+
+    def sides(self, way: Way) -> List[DumpSide]:
+        """Returns the dumps as they are asked by a way: what each candidate holds is known."""
+        if way not in self._asked:
+            self._asked[way] = sides_of(self.dumps, way)
+        return self._asked[way]
 
     def reports(self, way: Way) -> List[Report]:
-        """Returns the reports of the dumps by a way."""
-        return [side.report_without(table, WAYS_TO_COUNT.index(way)) for side, table in zip(self._sides, self._tables)]
+        """Returns the reports of the dumps by a way: one run for each dump shows those by all ways."""
+        if not self._tables:
+            sides = [side_of(each, Way(Weak.ALL)) for each in self.dumps]
+            tables = ask_places([(side, [cut_by(side, each) for each in WAYS_TO_COUNT]) for side in sides])
+            self._tables = list(zip(sides, tables))
+        return [side.report_without(table, WAYS_TO_COUNT.index(way)) for side, table in self._tables]
+
+    def usual_way(
+        self, families: Optional[List[str]], unit: Unit, unseen: float, most: float = PASSING
+    ) -> Optional[Way]:
+        """Returns the first of the usual ways by which in no dump more than `unseen` percent is lost of what grew of
+        these families, or of all that is reachable, or in one dump of the whole. Returns None if there is none, or a
+        way before it loses no more than `most` percent of what this one leaves."""
+        every: List[Report] = [each.report for each in self.dumps]
+        known: List[List[Report]] = []
+        for way in USUAL_WAYS:
+            bases = [side.base for side in self.sides(way)]
+            growth = grown(bases, families, unit)
+            if growth > 0 and 100 * most_lost(every, bases, families, unit) <= unseen * growth:
+                is_first = all(100 * most_lost(bases, less, families, unit) > most * growth for less in known)
+                return way if is_first else None
+            known.append(bases)
+        return None
 
 
 def side_of(runs: DumpRuns, way: Way) -> DumpSide:
@@ -123,8 +157,19 @@ def without_running_calls(
     reports with them, more than `most` percent of `whole` is lost by that; else without those of the JDK's calls, under
     the same condition; else with all."""
     for calls in Calls:
-        pairs = zip(bases, counts.reports(Way(follows, calls)))
-        lost = [unit.of(base.total(families)) - unit.of(less.total(families)) for base, less in pairs]
-        if 100 * max(lost) <= most * whole:
+        if 100 * most_lost(bases, counts.reports(Way(follows, calls)), families, unit) <= most * whole:
             return Way(follows, calls)
     return Way(follows)
+
+
+def most_lost(bases: Sequence[Report], less: Sequence[Report], families: Optional[List[str]], unit: Unit) -> int:
+    """Returns the most of these families, or of all if they are None, that one of the reports `less` lacks of that in
+    `bases`."""
+    return max(unit.of(base.total(families)) - unit.of(it.total(families)) for base, it in zip(bases, less))
+
+
+def grown(reports: Sequence[Report], families: Optional[List[str]], unit: Unit) -> int:
+    """Returns how much more the last dump has of these families than the first, or one dump at all; or of all that is
+    reachable if they are None."""
+    *before, last = (unit.of(each.total(families)) for each in reports)
+    return last - sum(before[:1])

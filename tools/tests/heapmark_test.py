@@ -31,6 +31,21 @@ class HeapmarkTest(ToolTest):
         self.assertEqual(heapmark.runs, 1)
         self.assertIn("glibc.malloc.hugetlb=1", pathlib.Path("runs").read_text())
 
+    def test_several(self) -> None:
+        """Reports of several dumps are made at the same time, and are in their order; so are messages, and of several
+        faults the first one is raised."""
+        for name in ("one", "two"):
+            pathlib.Path(name).touch()
+        row = report((1, 8, "A")).replace("A", "$2")
+        both = f"touch began-$2\nuntil [ -e began-one ] && [ -e began-two ]; do sleep 0.1; done\ncat << END\n{row}END"
+        heapmark = self.heapmark(f"[ $2 = two ] || sleep 0.3\n{both}")
+        with time_limit(60):
+            found = heapmark.first_reports(["one", "two"])
+        self.assertEqual([each.rows[0].name for each in found], ["one", "two"])
+        self.assertEqual(heapmark.runs, 2)
+        heapmark = self.heapmark('[ $2 = two ] || sleep 0.3; echo "refused 1 BadHeader at $2" >&2; exit 1')
+        self.assertRaisesRegex(Fault, "^one: .*at one", heapmark.first_reports, ["one", "two"])
+
     def test_faults(self) -> None:
         """A refusal is the file's fault, all else heapmark's."""
         pathlib.Path("dump").touch()

@@ -279,9 +279,8 @@ class HoldersTest(ToolTest):
             ("exit 1", "run 1 on shop.hprof failed: status 1: is it retained?"),
             ("exec yes", "run 1 on shop.hprof failed: no table: is it retained?"),
         ):
-            self.expect(
-                ["shop.hprof"], said=f"holders: *: {ended}", status=5, variables={"RETAINED": self.program(text)}
-            )
+            words, variables = ["--weak", "shop.hprof"], {"RETAINED": self.program(text)}
+            self.expect(words, said=f"holders: *: {ended}", status=5, variables=variables)
         self.expect(["shop.hprof"], said="holders: /nowhere cannot be run: No such *", status=5, heapmark="/nowhere")
         no_program = os.path.abspath("shop.hprof")
         self.expect(["shop.hprof"], said="holders: *shop.hprof cannot be run: *", status=5, heapmark=no_program)

@@ -614,7 +614,7 @@ class LeaksTest(ToolTest):
         self.assertEqual((figures.split()[-1], path), ("1", f"    {self.PATH}"), seen)
         _, seen = self.on_terminal("monday", "friday")
         parts = seen.split("\r")
-        self.assertEqual(parts[0], "leaks: reading dump 1 of 2")
+        self.assertEqual(parts[0], "leaks: reading 2 dumps of 2")
         self.assertTrue(any("asking what each field holds" in part for part in parts), seen)
         self.assertTrue(parts[-1].startswith("leaks: "), seen)
 

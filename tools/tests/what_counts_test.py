@@ -15,7 +15,7 @@ from heap_tools.what_counts import (
     without_running_calls,
 )
 from tests.support.marked import RETAINED, MarkedRuns, marked
-from tests.support.services import running
+from tests.support.services import Service, running
 
 
 def report_of(lost: int) -> Report:
@@ -96,6 +96,56 @@ class WaysTest(unittest.TestCase):
         self.assertEqual(RETAINED.runs - before, 1)
         self.assertEqual(sizes[Way(Weak.ALL)] - sizes[Way()], 7)
         self.assertEqual(sizes[Way()] - sizes[Way(Weak.NONE, Calls.OF_JDK)], 5)
+
+
+class UsualWayTest(unittest.TestCase):
+    """WhatCounts.usual_way"""
+
+    def counts(self, own: int, jdk: int = 0, weak: int = 0) -> WhatCounts:
+        """Returns what counts in a dump of some 200 objects, beside which only local variables of a method of the
+        program, of one of the JDK, and a weak reference hold so many."""
+        dump = Service()
+        dump.of_class(10, "java/lang/ref/Reference", fields=["referent"])
+        dump.of_class(11, "java/lang/Thread")
+        dump.of_class(12, "shop/Batch")
+        dump.of_class(13, "java/util/Queue")
+        for at, count in ((3000, own), (4000, jdk), (5000, weak)):
+            dump.array(at, 4, *range(at + 1, at + 1 + count))
+            for number in range(at + 1, at + 1 + count):
+                dump.values(number, 8, bytes(4))
+        for thread, of_class, array in ((1, 12, 3000), (2, 13, 4000)):
+            dump.thread(thread, 700 + thread, [(of_class, "run")])
+            dump.instance(700 + thread, 11)
+            dump.local(thread, 0, array)
+        dump.instance(710, 10, 5000)
+        dump.root(710)
+        return WhatCounts([marked(dump)])
+
+    def test_usual_way(self) -> None:
+        """It is the first that leaves hardly anything out of all that is reachable, one run for each way that is tried.
+        There is none if both leave more out, or if the first one might do."""
+        no_calls, own_calls = (Way(calls=calls) for calls in Calls)
+        cases: List[Tuple[WhatCounts, float, Optional[Way], int]] = [
+            (self.counts(2), 5, no_calls, 1),
+            (self.counts(100), 5, own_calls, 2),
+            (self.counts(100), 50, None, 2),
+            (self.counts(100, jdk=2, weak=2), 5, own_calls, 2),
+            (self.counts(2, jdk=100), 5, None, 2),
+            (self.counts(2, weak=100), 5, None, 2),
+        ]
+        for number, (counts, most, wanted, runs) in enumerate(cases):
+            before = RETAINED.runs
+            self.assertEqual(counts.usual_way(None, Unit.OBJECTS, PASSING, most), wanted, number)
+            self.assertEqual(RETAINED.runs - before, runs, number)
+
+    def test_kept(self) -> None:
+        """What was asked by a way is known: it is not asked once more."""
+        counts = self.counts(2)
+        asked = counts.sides(Way(calls=Calls.ALL))
+        before = RETAINED.runs
+        self.assertEqual(counts.usual_way(None, Unit.OBJECTS, PASSING), Way(calls=Calls.ALL))
+        self.assertIs(counts.sides(Way(calls=Calls.ALL)), asked)
+        self.assertEqual(RETAINED.runs, before)
 
 
 if __name__ == "__main__":

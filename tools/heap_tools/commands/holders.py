@@ -13,6 +13,7 @@ from heap_tools.command_line import Parser, number
 from heap_tools.console import Progress, is_terminal, say, write
 from heap_tools.documents import document, holders_fields
 from heap_tools.dump_runs import DumpRuns
+from heap_tools.dump_side import DumpSide
 from heap_tools.faults import WRONG_USE, Fault
 from heap_tools.heap_bytes import counted_in_heap
 from heap_tools.heapmark import Heapmark
@@ -24,7 +25,7 @@ from heap_tools.plain_dumps import is_dump
 from heap_tools.probe import Probe, Retained
 from heap_tools.reports import Unit
 from heap_tools.search import Search
-from heap_tools.what_counts import Way, Weak, WhatCounts, sides_of, without_running_calls
+from heap_tools.what_counts import PASSING, Way, Weak, WhatCounts, without_running_calls
 
 ABOUT = """
 Shows what holds the objects of a class in a heap dump: for each field, static
@@ -136,19 +137,27 @@ def find_holders(options: Namespace, name: Optional[str]) -> Found:
         in_bytes = options.bytes or not families or is_array(families[0])
         unit = Unit.BYTES if in_bytes else Unit.OBJECTS
         progress.show("asking what each field holds")
-        counts, follows = WhatCounts([runs]), Weak.ALL if options.weak else Weak.NONE
-        (base,) = counts.reports(Way(follows))
-        if families:
-            require_objects(families[0], runs, base)
-        whole = unit.of(base.total(families))
-        (side,) = sides_of([runs], without_running_calls(counts, follows, [base], families, unit, whole))
-        probe = Probe(side, families, unit)
-        search, statics = Search(probe, options.at_least or (10 if families else 20)), side.candidates.statics()
+        probe = Probe(asked_side(runs, families, unit, options.weak), families, unit)
+        search, statics = Search(probe, options.at_least or (10 if families else 20)), probe.candidates.statics()
         search.find()
         find_joint(search, [each for each in statics if not each.is_of_machine], statics)
     finally:
         progress.clear()
     return Found(search, by_share(search.found, probe.share), options.top, dumps.words)
+
+
+def asked_side(runs: DumpRuns, families: Optional[List[str]], unit: Unit, follows_weak: bool) -> DumpSide:
+    """Returns a dump as it is asked: without running calls, if these hold little. Raises `Fault` if the user asks for a
+    class of which no object is reachable."""
+    counts, follows = WhatCounts([runs]), Weak.ALL if follows_weak else Weak.NONE
+    way = None if follows_weak else counts.usual_way(families, unit, PASSING)
+    if way is None:
+        (base,) = counts.reports(Way(follows))
+        if families:
+            require_objects(families[0], runs, base)
+        way = without_running_calls(counts, follows, [base], families, unit, unit.of(base.total(families)))
+    (side,) = counts.sides(way)
+    return side
 
 
 def holder_lines(found: Found) -> str:
