@@ -70,11 +70,12 @@ class JointSearch:
         of, gain = self.probe.unit.of, self.probe.gain
         adds = {each.key: of(gain(group)) - of(gain([it for it in group if it is not each])) for each in group}
         left = [it for it in group if not it.is_thread or of(gain([it])) < MOST * adds[it.key] or len(group) == 1]
-        for each in group:
-            rest = [it for it in left if it is not each]
-            if rest and of(gain(rest)) >= of(gain(left)):
-                left = rest
-        return left
+        while True:
+            rests = ([it for it in left if it is not each] for each in left if len(left) > 1)
+            enough = next((rest for rest in rests if of(gain(rest)) >= of(gain(left))), None)
+            if enough is None:
+                return left
+            left = enough
 
     def preference(self, group: Several, joint: Joint) -> Tuple[int, ...]:
         """Returns what the best ones are the smallest by: how many are not own, of how many classes they are, how many

@@ -14,7 +14,7 @@ from heap_tools.dump_runs import DumpRuns
 from heap_tools.dump_side import DumpSide, ask, key_of
 from heap_tools.heap_dump import HeapDump
 from heap_tools.heapmark import Heapmark
-from heap_tools.joint_search import BLOCKS, JointSearch, alone
+from heap_tools.joint_search import BLOCKS, JointSearch, alone, with_effect
 from heap_tools.leak_answer import answer_of
 from heap_tools.leak_lines import Line, searched
 from heap_tools.leak_options import Bounds
@@ -358,8 +358,7 @@ class RandomTest(unittest.TestCase):
                     self.assertEqual(held.heap, whole.reachable.minus(side.runs.report_of(left).reachable), seed)
 
     def test_joint(self) -> None:
-        """Each of several that hold something only together is needed: without it, the others gained less than nearly
-        all."""
+        """Each of several that hold something only together is needed: without it, the others gained less."""
         count = 0
         for seed, probe in self.pairs(PAIRS):
             few = probe.candidates.few()
@@ -368,7 +367,8 @@ class RandomTest(unittest.TestCase):
             self.assertLessEqual(len(found), 3, seed)
             if len(found) > 1:
                 together = probe.unit.percent(probe.gain_beside(found, alone(few)), probe.growth)
-                self.assertGreaterEqual(together, AT_LEAST, seed)
+                self.assertGreaterEqual(max(together, probe.share(found)), AT_LEAST, seed)
+                self.assertEqual(with_effect(probe, found), found, seed)
         self.assertGreater(count, PAIRS / 20)
 
     def test_top(self) -> None:
