@@ -56,14 +56,16 @@ class ObjectShares:
 
     def amount(self, value: FieldValue) -> Amount:
         """Returns what one of the objects holds."""
-        return self._amount(self.values.index(value))
+        return self.amount_of([self.values.index(value)])
 
-    def _amount(self, number: int) -> Amount:
-        return held_amount(self.probe, self.table, 1 + number)
+    def amount_of(self, numbers: Sequence[int]) -> Amount:
+        """Returns what the objects of some numbers hold, each by itself: what several of them do counts once."""
+        sets = frozenset().union(*(self.table.sets_with(1 + number) for number in numbers))
+        return self.probe.amount_of(self.probe.side.held(self.table, sets))
 
     def most(self, whole: Amount) -> float:
         """Returns the most that one of them holds, in percent of `whole`."""
-        return max((self.probe.unit.percent(self._amount(it), whole) for it in self.heavy), default=0.0)
+        return max((self.probe.unit.percent(self.amount_of([it]), whole) for it in self.heavy), default=0.0)
 
     def part_of_largest(self, count: int) -> float:
         """Returns the part of what all hold together that `count` of them hold by themselves, those that hold most
@@ -77,7 +79,7 @@ class ObjectShares:
         unit, found = self.probe.unit, []
         taken: Set[int] = set()
         for number in self.heavy:
-            amount, sets = self._amount(number), self.table.sets_with(1 + number)
+            amount, sets = self.amount_of([number]), self.table.sets_with(1 + number)
             is_heavy = unit.percent(amount, whole) >= OF_ONE and self._nearest[number] >= BY_ITSELF * self._held[number]
             if is_heavy and sets.isdisjoint(taken):
                 taken |= sets

@@ -76,25 +76,26 @@ class PathRoots:
             return None
         step = min(path, key=lambda it: it.instances)
         if step.key not in self._known:
-            dump, values = self.probe.runs.dump, [it for each in step.candidates for it in self._heaviest(each)]
+            dump, is_alone = self.probe.runs.dump, len(step.candidates) == 1
+            values = [it for each in step.candidates for it in self._heaviest(each, is_alone)]
             search = RootSearch(self.probe.side, {dump.id(each.instance + 1) for each in values})
             self._known[step.key] = RootsAbove(path[0], search.found, search.is_done) if search.found else None
         found = self._known[step.key]
         return found._replace(first=path[0]) if found else None
 
-    def _heaviest(self, field: Candidate) -> Sequence[FieldValue]:
-        """Returns the fewest values of a field that hold nearly all that it does, none if they are many."""
+    def _heaviest(self, field: Candidate, is_alone: bool) -> Sequence[FieldValue]:
+        """Returns the fewest values of a field that hold nearly all that it does alone; if these are not few, or others
+        hold it with the field, all values, or none if they are many."""
         values = self.uses.of(field).values
-        if len(values) == 1 or len(values) > MOST_OBJECTS:
-            return values[:1] if len(values) == 1 else ()
+        every = values if len(values) <= MOST_OWNERS else ()
+        if len(values) == 1 or len(values) > MOST_OBJECTS or not is_alone:
+            return every
         shares, unit = self.uses.shares(self.probe, field), self.probe.unit
-        found, held = [], 0
-        for value in (values[number] for number in shares.heavy[:MOST_OWNERS]):
-            found.append(value)
-            held += unit.of(shares.amount(value))
-            if held >= NEARLY * unit.of(shares.together):
-                return found
-        return ()
+        for count in range(1, MOST_OWNERS + 1):
+            few = shares.heavy[:count]
+            if unit.of(shares.amount_of(few)) >= NEARLY * unit.of(shares.together):
+                return [values[number] for number in few]
+        return every
 
 
 class RootSearch:

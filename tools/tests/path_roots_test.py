@@ -136,11 +136,16 @@ class PathRootsTest(unittest.TestCase):
         return PathRoots(probe, FieldUses(HeapObjects(probe.runs.dump))).above(path)
 
     def test_of_path(self) -> None:
-        """They are those above the step with the fewest objects: of nine tasks none holds anything alone."""
+        """They are those above the step with the fewest objects. Of nine tasks none holds anything alone: if these are
+        not too many, they are those above all."""
         found = self.above(dispatched(30), TARGET, TASK, f"sun/net/httpserver/{SERVER}")
         assert found
         self.assertEqual((found.first.candidates[0].name, found.roots[0], len(found.roots)), (TARGET, DISPATCHER, 9))
-        self.assertIsNone(self.above(dispatched(30), TARGET, TASK))
+        found = self.above(dispatched(30), TARGET, TASK)
+        assert found
+        self.assertEqual((found.roots[0], len(found.roots)), (DISPATCHER, 9))
+        with mock.patch.object(path_roots, "MOST_OWNERS", 8):
+            self.assertIsNone(self.above(dispatched(30), TARGET, TASK))
 
     def test_one_of_many(self) -> None:
         """Of many objects that have the field it is asked of the few that hold nearly all."""
@@ -159,10 +164,45 @@ class PathRootsTest(unittest.TestCase):
             found = self.above(dump, "lib/Buffer.content")
         assert found
         self.assertEqual([str(each) for each in found.roots][2:], ["static shop/Main.SMALL", "the virtual machine"])
-        with mock.patch.object(path_roots, "MOST_OBJECTS", 2):
+        with mock.patch.multiple(path_roots, MOST_OBJECTS=2, MOST_OWNERS=2):
             self.assertIsNone(self.above(dump, "lib/Buffer.content"))
         with mock.patch.object(path_roots, "MOST_OWNERS", 0):
             self.assertIsNone(self.above(dump, "lib/Buffer.content"))
+
+    def test_of_several(self) -> None:
+        """What fields hold only together no value of one of them holds: so the roots above all of these are there."""
+        dump = DumpWriter()
+        dump.of_class(20, "shop/Main", {"FIRST": 600, "SECOND": 610, "OTHER": 620})
+        dump.of_class(21, "lib/Reader", fields=["text"])
+        dump.of_class(22, "lib/Writer", fields=["lines"])
+        dump.of_class(23, "[Ljava/lang/Object;")
+        for number, of_class, array in ((600, 21, 700), (610, 22, 700), (620, 21, 710)):
+            dump.instance(number, of_class, array)
+        dump.array(700, 23, *[0] * 500)
+        dump.array(710, 23, 0)
+        dump.root(20)
+        probe = probe_of(dump)
+        fields = [held_by(probe, name).candidates[0] for name in ("lib/Reader.text", "lib/Writer.lines")]
+        found = PathRoots(probe, FieldUses(HeapObjects(probe.runs.dump))).above([probe.retained(fields)])
+        assert found
+        self.assertEqual(
+            [each.name for each in found.roots], [f"shop/Main.{it}" for it in ("FIRST", "OTHER", "SECOND")]
+        )
+
+    def test_nested(self) -> None:
+        """What objects hold that lead to each other counts once: so the roots above others that hold much are there."""
+        dump = DumpWriter()
+        dump.of_class(20, "shop/Main", {"CHAIN": 600, "OTHER": 610})
+        dump.of_class(21, "lib/Task", fields=["next"])
+        dump.of_class(23, "[Ljava/lang/Object;")
+        for number, after in ((600, 601), (601, 602), (602, 700), (610, 710)):
+            dump.instance(number, 21, after)
+        for array, count in ((700, 60), (710, 40)):
+            dump.array(array, 23, *[0] * count)
+        dump.root(20)
+        found = self.above(dump, "lib/Task.next")
+        assert found
+        self.assertEqual([each.name for each in found.roots], ["shop/Main.CHAIN", "shop/Main.OTHER"])
 
     def test_roots_are_paths(self) -> None:
         """A path that begins with a root is not looked into."""
