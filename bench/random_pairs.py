@@ -10,7 +10,8 @@ A marker that knows only the program (`random_marks.py`) then finds how much gre
 
     what it held and holds, its share, its instances and its elements
     which objects hold most, and how much
-    that each step of its path holds all that the next one does, and that what it is held by leads there
+    that each step of its path holds all that the next one does
+    that the roots above it lead there, and that there are no others if it says so
     that less is gained without each of several that hold something together
 
 Prints a table with tabs, a row for each seed: how both tools differ (`-` without OLD) in line 1 and in notes; `right`,
