@@ -124,15 +124,19 @@ class LinesInTurn:
             found = self.ranked(probe.without(group), between)
 
     def beside(self, first: Search) -> Optional[Beside]:
-        """Returns what gained most that no line holds, of what was found first, if that is as much as a line must hold,
-        but too little is left: something else shrank. What would have to be asked for is left out."""
+        """Returns what gained most that no line holds, of what was found first, if that is as much as a line must hold
+        more than is left, which is too little: something else shrank. It is looked up, and asked only to be sure."""
         if not self.lines or not self.is_little(self.left):
             return None
-        probe, lines = first.probe, [line.held.candidates for line in self.lines]
-        known = [held for held in first.found if probe.knows_together([held.candidates, *lines])]
-        every = [Beside(it, self._share(probe.gain_beside(it.candidates, lines))) for it in known]
-        most = max(every, key=lambda it: it.share, default=None)
-        return most if most and most.share >= self.bounds.others else None
+        probe, every = first.probe, [line.held.candidates for line in self.lines]
+        known = [held for held in first.found if probe.knows_together([held.candidates, *every])]
+        most = max(known, key=lambda it: probe.unit.of(probe.gain_beside(it.candidates, every)), default=None)
+        least = self.bounds.others + max(0.0, self._share(self.left))
+        if most is None or self._share(probe.gain_beside(most.candidates, every)) < least:
+            return None
+        # The lines may hold together what none of them holds alone.
+        share = self._share(probe.gain_beside(most.candidates, [[each for of_line in every for each in of_line]]))
+        return Beside(most, share) if share >= least else None
 
     def ranked(self, probe: Probe, between: Between) -> Ranking:
         """Returns what holds as much as a line must of what the lines leave, for which `probe` asks."""
