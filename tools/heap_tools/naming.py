@@ -10,6 +10,8 @@ from heap_tools.class_names import printable
 NAMING = ("name", "id", "key", "destination", "topic", "queue", "title", "label", "path", "url", "host")
 #: A number that a program makes at random (RFC 4122). It names an object for programs, not for a reader.
 RANDOM = re.compile("[0-9a-f]{8}-(?:[0-9a-f]{4}-){3}[0-9a-f]{12}", re.IGNORECASE)
+#: What an object is as a text, if its class does not say how: the class, and a number that differs in each run.
+OF_OBJECT = re.compile(r"[\w.$/]+@[0-9a-f]{1,8}")
 #: How many names of an object are shown.
 NAMES_SHOWN = 2
 #: How many characters of a text are shown.
@@ -47,6 +49,12 @@ def likeliest_first(name: Name) -> Tuple[bool, Name]:
     """Returns what names of owners are sorted by: those come first whose last field is called as what names is, and has
     a text."""
     return not (name.text and is_naming(re.split("[ .]", name.how)[-1])), name
+
+
+def naming_texts(texts: Mapping[int, str]) -> Dict[int, str]:
+    """Returns the texts that may name something, by the objects that they are: no empty ones, and not what an object is
+    as a text."""
+    return {key: text for key, text in texts.items() if text and not OF_OBJECT.fullmatch(text)}
 
 
 def likely_names(named: Mapping[str, str]) -> List[str]:

@@ -7,7 +7,7 @@ from heap_tools import hprof_format as hprof
 from heap_tools.class_names import family, is_own
 from heap_tools.field_values import values_by_field
 from heap_tools.heap_objects import THREAD_CLASS, HeapObjects
-from heap_tools.naming import Name, is_naming, likeliest_first, likely_names, shown_text
+from heap_tools.naming import Name, is_naming, likeliest_first, likely_names, naming_texts, shown_text
 from heap_tools.object_owners import Owners
 from heap_tools.part_names import NODE_CLASSES, PartNames
 from heap_tools.referrers import MOST_OWNERS, Referrer, Referrers
@@ -74,9 +74,8 @@ class OwnerNames:
         targets = {each: self._naming_targets(each) for each in owners}
         known = self.objects.places_of({target for found in targets.values() for target in found.values()})
         parts = {owner: self.parts.texts_of_parts(owner.place, found, known) for owner, found in targets.items()}
-        texts = self.objects.texts(
-            {key for by_owner in (targets, parts) for of in by_owner.values() for key in of.values()}
-        )
+        keys = {key for by_owner in (targets, parts) for of in by_owner.values() for key in of.values()}
+        texts = naming_texts(self.objects.texts(keys))
         of_entries: Dict[int, List[Name]] = {}
         entries = {each.place for each in targets if self.thread_locals.is_entry(each.place)}
         for at, name in self.thread_locals.names([(at, at) for at in sorted(entries)]):

@@ -4,7 +4,7 @@ from typing import Dict, List, Mapping, NamedTuple, Sequence, Tuple
 
 from heap_tools import hprof_format as hprof
 from heap_tools.heap_objects import THREAD_CLASS, HeapObjects
-from heap_tools.naming import Name, alone_in, is_naming, shown_text
+from heap_tools.naming import Name, alone_in, is_naming, naming_texts, shown_text
 
 #: The fields of the nodes of maps: the object, and its key.
 MAP_NODES = (
@@ -65,7 +65,7 @@ class PartNames:
     def _named(self, strings: Mapping[int, Sequence[Tuple[str, int]]]) -> Dict[int, List[Tuple[str, Name]]]:
         """Returns the names that texts give objects, by these and with the paths to them, of those of `strings` that
         are texts."""
-        texts = self.objects.texts({key for of_object in strings.values() for _, key in of_object})
+        texts = naming_texts(self.objects.texts({key for of_object in strings.values() for _, key in of_object}))
         return {
             at: [(path, Name(f"its field {path}", shown_text(texts[key]))) for path, key in found if texts.get(key)]
             for at, found in strings.items()

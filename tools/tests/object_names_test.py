@@ -359,8 +359,8 @@ class NamesTest(unittest.TestCase):
 
     def test_neighbour(self) -> None:
         """The name of a neighbour, an object of the same class, names no object that it leads to, be it by one of the
-        class or not, and neither does the stack where an object was made, nor a random number that is not called as a
-        name; what an owner is made of does."""
+        class or not, and neither does the stack where an object was made, what an object is as a text, nor a random
+        number that is not called as a name; what an owner is made of does."""
         dump = Queues([])
         dump.of_class(20, "shop/Atom")
         dump.of_class(21, "shop/Link", {"FIRST": 310}, fields=["atom", "next", "name"])
@@ -368,6 +368,9 @@ class NamesTest(unittest.TestCase):
         dump.of_class(23, "shop/Traced", {"ONE": 321}, fields=["where"])
         dump.of_class(24, "shop/Cached", {"ONE": 322}, fields=["guid"])
         dump.of_class(25, "shop/Known", {"ONE": 323}, fields=["id"])
+        dump.of_class(26, "shop/Pool", {"ONE": 324}, fields=["name"])
+        dump.string(60_005, "shop.Pool$Of@5451c3a8")
+        dump.instance(324, 26, 60_005)
         dump.string(60_000, "eu")
         dump.string(60_001, "at shop.Pool.make")
         dump.string(60_002, "made\n at shop.Pool.make")
@@ -380,9 +383,10 @@ class NamesTest(unittest.TestCase):
         dump.instance(321, 23, 60_002)
         dump.instance(322, 24, 60_003)
         dump.instance(323, 25, 60_004)
-        names = [[f"static shop/{name}"] for name in ("Link.FIRST", "Pooled.ONE", "Traced.ONE", "Cached.ONE")]
+        statics = ("Link.FIRST", "Pooled.ONE", "Traced.ONE", "Cached.ONE", "Pool.ONE")
+        names = [[f"static shop/{name}"] for name in statics]
         random = ['its field id "8bdaf832-c041-40ff-8322-a9817f4aeead"']
-        self.assertEqual(self.names(dump, 300, 320, 321, 322, 323), [*names, random])
+        self.assertEqual(self.names(dump, 300, 320, 321, 322, 324, 323), [*names, random])
         chain = Queues([])
         chain.of_class(20, "shop/Reader", fields=["name"])
         chain.of_class(21, "shop/Stream", {"FIRST": 310}, fields=["next", "reader", "name"])
