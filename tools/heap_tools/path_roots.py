@@ -77,7 +77,8 @@ class PathRoots:
         step = min(path, key=lambda it: it.instances)
         if step.key not in self._known:
             dump, is_alone = self.probe.runs.dump, len(step.candidates) == 1
-            values = [it for each in step.candidates for it in self._heaviest(each, is_alone)]
+            every = [self._heaviest(each, is_alone) for each in step.candidates]
+            values = [it for of_field in every for it in of_field] if all(every) else []
             search = RootSearch(self.probe.side, {dump.id(each.instance + 1) for each in values})
             self._known[step.key] = RootsAbove(path[0], search.found, search.is_done) if search.found else None
         found = self._known[step.key]

@@ -188,6 +188,8 @@ class PathRootsTest(unittest.TestCase):
         self.assertEqual(
             [each.name for each in found.roots], [f"shop/Main.{it}" for it in ("FIRST", "OTHER", "SECOND")]
         )
+        with mock.patch.object(path_roots, "MOST_OWNERS", 1):
+            self.assertIsNone(PathRoots(probe, FieldUses(HeapObjects(probe.runs.dump))).above([probe.retained(fields)]))
 
     def test_nested(self) -> None:
         """What objects hold that lead to each other counts once: so the roots above others that hold much are there."""
