@@ -101,8 +101,8 @@ class PathRoots:
 
 class RootSearch:
     """A search for the roots that lead to some objects, in the dump of `side`, by the references that count. `found`
-    are the roots, the nearest first; of each thread one: the thread, or if only local variables of its calls lead
-    there, the nearest. `is_done`: all were found that lead there by no other one of them."""
+    are the roots, the nearest first; of each thread one: the thread, or if only local variables of one method lead
+    there, these. `is_done`: all were found that lead there by no other one of them."""
 
     def __init__(self, side: DumpSide, identifiers: Set[int]) -> None:
         self.side, self.dump, self.objects = side, side.runs.dump, HeapObjects(side.runs.dump)
@@ -133,8 +133,8 @@ class RootSearch:
             same = [at for at, it in enumerate(self.found) if it == root or it.thread == root.thread != 0]
             if not same:
                 self.found.append(root)
-            elif root.kind == THREAD:
-                self.found[same[0]] = root
+            elif root != self.found[same[0]]:
+                self.found[same[0]] = self._thread(root.thread)
 
     def _leading(self, key: int) -> List[Referrer]:
         """Returns what leads to an object by a reference that counts. Of many of one class not all are known."""
@@ -167,19 +167,23 @@ class RootSearch:
 
     def _roots(self) -> Dict[int, List[RootAbove]]:
         """Returns the roots that count, by the identifiers of their objects."""
-        names, known = self.objects.thread_names(), {root.place for root in self.dump.roots}
+        known = {root.place for root in self.dump.roots}
         found: Dict[int, List[RootAbove]] = {}
         for root in self.dump.roots:
             if in_root(self.dump.root_number(root.place)) not in self._cut:
-                found.setdefault(self.dump.id(root.place), []).append(self._of_thread(root, names))
+                found.setdefault(self.dump.id(root.place), []).append(self._of_thread(root))
         for place in self.dump.root_places:
             if place not in known:
                 found.setdefault(self.dump.id(place), []).append(RootAbove(MACHINE_ROOT))
         return found
 
-    def _of_thread(self, root: Root, names: Dict[int, str]) -> RootAbove:
+    def _of_thread(self, root: Root) -> RootAbove:
         """Returns the local variable or the thread that a root of a thread is."""
         frame = self.dump.frame(root.thread, root.frame)
         if frame:
             return RootAbove(LOCAL, f"{family(frame.class_name)}.{frame.method}", root.thread)
-        return RootAbove(THREAD, shown_name(names.get(root.thread, "")), root.thread)
+        return self._thread(root.thread)
+
+    def _thread(self, serial: int) -> RootAbove:
+        """Returns the thread with a serial number, as a root."""
+        return RootAbove(THREAD, shown_name(self.objects.thread_names().get(serial, "")), serial)

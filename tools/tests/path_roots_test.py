@@ -51,16 +51,16 @@ class RootSearchTest(unittest.TestCase):
         self.assertTrue(self.search(dispatched(3)).is_done)
 
     def test_of_one_thread(self) -> None:
-        """A thread counts once, however many of its calls lead there: as the thread if its object does, too. Two of
-        one name are two."""
-        for target, main in (0, "local shop/Main.main"), (791, "thread"):
+        """A thread counts once, however many of its calls lead there: as the thread if several do, or its object, too.
+        Two of one name are two."""
+        for target, second, main in ((0, 0, "local shop/Main.main"), (791, 0, "thread"), (0, 600, "thread")):
             dump = dispatched(3, "aa")
             dump.of_class(60, "shop/Main")
             dump.thread(9, 790, [(60, "main"), (60, "run")])
             dump.instance(790, 6, 0, target)
             dump.instance(791, 9, 600, 0)
             dump.local(9, 0, 600)
-            dump.local(9, 1, 600)
+            dump.local(9, 1, second)
             wanted = [main, 'thread "HTTP-Dispatcher"', 'thread "worker a"', 'thread "worker a"']
             self.assertEqual(self.found(dump), wanted)
 
@@ -84,7 +84,7 @@ class RootSearchTest(unittest.TestCase):
         dump.instance(700, 23)
         dump.instance(701, 23)
         dump.local(1, 0, 600)
-        dump.local(1, 1, 600, 610)
+        dump.local(1, 0, 610)
         dump.local(2, 0, 611)
         dump.heap += dump.form.root(JNI_GLOBAL, 600) + dump.form.spell([1])
         dump.root(20, 21)
