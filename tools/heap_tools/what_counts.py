@@ -77,17 +77,19 @@ class WhatCounts:
             self._tables = list(zip(sides, tables))
         return [side.report_without(table, WAYS_TO_COUNT.index(way)) for side, table in self._tables]
 
+    def _bases(self, way: Way) -> List[Report]:
+        return [side.base for side in self.sides(way)]
+
     def usual_way(
         self, families: Optional[List[str]], unit: Unit, unseen: float, most: float = PASSING
     ) -> Optional[Way]:
         """Returns the first of the usual ways by which in no dump more than `unseen` percent is lost of what grew of
         these families, or of all that is reachable, or in one dump of the whole. Returns None if there is none, or a
         way before it loses no more than `most` percent of what this one leaves."""
-        every: List[Report] = [each.report for each in self.dumps]
         known: List[List[Report]] = []
         for way in USUAL_WAYS:
-            bases = [side.base for side in self.sides(way)]
-            growth = grown(bases, families, unit)
+            bases, growth = self._bases(way), grown(self._bases(way), families, unit)
+            every = [each.report for each in self.dumps]  # whose arrays are padded as the first table says
             if growth > 0 and 100 * most_lost(every, bases, families, unit) <= unseen * growth:
                 is_first = all(100 * most_lost(bases, less, families, unit) > most * growth for less in known)
                 return way if is_first else None
