@@ -60,13 +60,14 @@ def naming_texts(texts: Mapping[int, str]) -> Dict[int, str]:
 def likely_names(named: Mapping[str, str]) -> List[str]:
     """Returns which of the fields with these texts name their object, the likeliest first. A text of several lines,
     such as the stack where an object was made, is no name, and neither is what is called a trace, or has a random
-    number and is not called as a name is."""
+    number and is not called as a name is. What an object is as a text names none, and leaves that to no other one."""
     named = {
         field: text for field, text in named.items() if text and "\n" not in text and field[-5:].lower() != "trace"
     }
     likely = [field for field in NAMING if field in named] or [field for field in named if is_naming(field)]
     telling = [field for field, text in named.items() if not RANDOM.search(text)]
-    return likely or (telling if len(telling) == 1 else [])
+    found = likely or (telling if len(telling) == 1 else [])
+    return [field for field in found if not OF_OBJECT.fullmatch(named[field])]
 
 
 def alone_in(names: Mapping[int, Sequence[Name]]) -> Dict[int, List[Name]]:

@@ -6,16 +6,7 @@ from typing import Dict, Iterable, List, Mapping, Sequence, Tuple
 from heap_tools import hprof_format as hprof
 from heap_tools.heap_dump import HeapDump
 from heap_tools.heap_objects import THREAD_CLASS, HeapObjects
-from heap_tools.naming import (
-    NAMES_SHOWN,
-    Name,
-    alone_in,
-    first_of_texts,
-    likely_names,
-    names_joined,
-    naming_texts,
-    shown_text,
-)
+from heap_tools.naming import NAMES_SHOWN, Name, alone_in, first_of_texts, likely_names, names_joined, shown_text
 from heap_tools.owner_names import OwnerNames
 from heap_tools.part_names import MAP_NODES
 from heap_tools.thread_locals import VALUE_OF_ENTRY, ThreadLocals, telling
@@ -73,7 +64,7 @@ class ObjectNames:
         keys, entries = self._keys_and_entries(places)
         named = {target for of_object in fields.values() for target in of_object.values()}
         known = self.objects.places_of({*named, *(key for _, key in keys)})
-        texts = naming_texts(self.objects.texts_at(known))
+        texts = self.objects.texts_at(known)
         by_key = self._by_key(keys, known, texts)
         for at, name in [*self._by_text(fields, texts), *by_key, *self.thread_locals.names(entries)]:
             found[at].append(name)

@@ -26,6 +26,16 @@ class FieldAbove(NamedTuple):
     name: Name
 
 
+def nearest_steps(steps: Steps, names: Mapping[Referrer, Sequence[Name]]) -> Dict[Name, int]:
+    """Returns at which step up an owner has each name first. What threads have by one thread-local is the name of each
+    of them."""
+    found: Dict[Name, int] = {}
+    for number, step in enumerate(steps):
+        for name in (name for each in step for name in names[each] if name.how != BY_THREAD_LOCAL):
+            found.setdefault(name, number)
+    return found
+
+
 class OwnerNames:
     """Looks up what names owners of the objects of a dump."""
 
@@ -37,14 +47,16 @@ class OwnerNames:
         self, places: Sequence[int], others: Sequence[int], named: Mapping[int, AbstractSet[int]]
     ) -> Dict[int, List[Name]]:
         """Returns the names of the nearest owners of the objects at `places` that have any which those of another one
-        or of one at `others` do not have. If there are none, the field that leads to an object is its name. An owner
-        has one name; those in `named` have theirs already, by which the object is named."""
+        or of one at `others` do not have as near. If there are none, the field that leads to an object is its name. An
+        owner has one name; those in `named` have theirs already, by which the object is named."""
         above = Owners(self.referrers).above(places, others)
         names = self._names_of({each for steps in above.values() for step in steps for each in step})
-        said = {at: {name for step in steps for each in step for name in names[each]} for at, steps in above.items()}
+        said = {at: nearest_steps(steps, names) for at, steps in above.items()}
         found: Dict[int, List[Name]] = {}
         for at in places:
-            of_others = {name for other in said if other != at for name in said[other] if name.how != BY_THREAD_LOCAL}
+            of_others: Dict[Name, int] = {}
+            for name, step in (pair for other in said if other != at for pair in said[other].items()):
+                of_others[name] = min(step, of_others.get(name, step))
             found[at] = self._nearest(above[at], names, of_others, named[at])
         nameless = {at: above[at] for at in places if not found[at] and not named[at]}
         return {**found, **(self._by_field(nameless) if nameless else {})}
@@ -53,15 +65,16 @@ class OwnerNames:
         self,
         steps: Steps,
         names: Mapping[Referrer, Sequence[Name]],
-        of_others: AbstractSet[Name],
+        of_others: Mapping[Name, int],
         named: AbstractSet[int],
     ) -> List[Name]:
-        """Returns the names of the nearest owners that have any but those `of_others`, the likeliest first: of each
-        owner the first of its names, and none of those in `named`."""
-        for step in steps:
+        """Returns the names of the nearest owners that have any but those `of_others` up to this step, the likeliest
+        first: of each owner the first of its names, and none of those in `named`."""
+        for number, step in enumerate(steps):
             by_owner: Dict[int, List[Name]] = {}
             for each in step:
-                by_owner.setdefault(each.place, []).extend(name for name in names[each] if name not in of_others)
+                alone = (name for name in names[each] if of_others.get(name, number + 1) > number)
+                by_owner.setdefault(each.place, []).extend(alone)
             telling = {at: of_owner for at, of_owner in by_owner.items() if of_owner}
             if telling:
                 first = {of_owner[0] for at, of_owner in telling.items() if self.dump.id(at + 1) not in named}
@@ -75,7 +88,8 @@ class OwnerNames:
         known = self.objects.places_of({target for found in targets.values() for target in found.values()})
         parts = {owner: self.parts.texts_of_parts(owner.place, found, known) for owner, found in targets.items()}
         keys = {key for by_owner in (targets, parts) for of in by_owner.values() for key in of.values()}
-        texts = naming_texts(self.objects.texts(keys))
+        texts = self.objects.texts(keys)
+        of_parts = naming_texts(texts)
         of_entries: Dict[int, List[Name]] = {}
         entries = {each.place for each in targets if self.thread_locals.is_entry(each.place)}
         for at, name in self.thread_locals.names([(at, at) for at in sorted(entries)]):
@@ -83,7 +97,7 @@ class OwnerNames:
         of_own = {owner: self._own_text(found, texts) for owner, found in targets.items()}
         asked = {targets[each][field] for each, field in of_own.items() if field}
         named = {
-            targets[each][path.partition(".")[0]] for each, of in parts.items() for path in of if texts.get(of[path])
+            targets[each][path.partition(".")[0]] for each, of in parts.items() for path in of if of[path] in of_parts
         }
         self.referrers.look_up(asked | named)
         names: Dict[Referrer, List[Name]] = {}
@@ -96,7 +110,7 @@ class OwnerNames:
                 names[owner].append(Name(how, shown_text(texts[found[best]]), is_of_thread))
             for path, key in parts[owner].items():
                 field = path.partition(".")[0]
-                if texts.get(key) and not self._is_attribute(owner, field, found[field]):
+                if key in of_parts and not self._is_attribute(owner, field, found[field]):
                     names[owner].append(Name(f"of {self._class_of(owner)}, its field {path}", shown_text(texts[key])))
             names[owner] += of_entries.get(owner.place, [])
             if self._is_class(owner):

@@ -357,6 +357,21 @@ class NamesTest(unittest.TestCase):
             dump.instance(340, 5, 60_001, 301)
             self.assertEqual(self.names(dump, 301, others=[300]), [['the map\'s key "printer"']])
 
+    def test_nearer(self) -> None:
+        """A name is that of the object which it is nearest to: what leads to it also by a list of all is none of
+        theirs."""
+        dump = Queues([])
+        dump.of_class(20, "shop/Work")
+        dump.of_class(21, "shop/Lane", {"FIRST": 310, "SECOND": 311}, fields=["work", "kind"])
+        dump.of_class(22, "shop/Cleaner", fields=["work", "next"])
+        for number, kind in ((0, "pdf"), (1, "mail")):
+            dump.string(60_000 + number, kind)
+            dump.instance(300 + number, 20)
+            dump.instance(310 + number, 21, 320 + number, 60_000 + number)
+            dump.instance(320 + number, 22, 300 + number, 321 - number)
+        wanted = [[f'of shop/Lane, its field kind "{kind}"'] for kind in ("pdf", "mail")]
+        self.assertEqual(self.names(dump, 300, 301), wanted)
+
     def test_neighbour(self) -> None:
         """The name of a neighbour, an object of the same class, names no object that it leads to, be it by one of the
         class or not, and neither does the stack where an object was made, what an object is as a text, nor a random
@@ -368,9 +383,9 @@ class NamesTest(unittest.TestCase):
         dump.of_class(23, "shop/Traced", {"ONE": 321}, fields=["where"])
         dump.of_class(24, "shop/Cached", {"ONE": 322}, fields=["guid"])
         dump.of_class(25, "shop/Known", {"ONE": 323}, fields=["id"])
-        dump.of_class(26, "shop/Pool", {"ONE": 324}, fields=["name"])
+        dump.of_class(26, "shop/Pool", {"ONE": 324}, fields=["name", "type"])
         dump.string(60_005, "shop.Pool$Of@5451c3a8")
-        dump.instance(324, 26, 60_005)
+        dump.instance(324, 26, 60_005, 60_000)
         dump.string(60_000, "eu")
         dump.string(60_001, "at shop.Pool.make")
         dump.string(60_002, "made\n at shop.Pool.make")
