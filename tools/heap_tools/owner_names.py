@@ -27,8 +27,8 @@ class FieldAbove(NamedTuple):
 
 
 def nearest_steps(steps: Steps, names: Mapping[Referrer, Sequence[Name]]) -> Dict[Name, int]:
-    """Returns at which step up an owner has each name first. What threads have by one thread-local is the name of each
-    of them."""
+    """Returns at which step up an owner has each name first. Names by a thread-local are left out, since several
+    threads have one each by the same field."""
     found: Dict[Name, int] = {}
     for number, step in enumerate(steps):
         for name in (name for each in step for name in names[each] if name.how != BY_THREAD_LOCAL):

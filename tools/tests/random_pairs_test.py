@@ -12,7 +12,7 @@ from typing import Any, Dict, List
 
 from tests.support.tool_test import TOP
 
-#: Seeds of pairs, each with a line and something above it, one of them in bytes of the heap.
+#: Seeds of pairs, of which each has a line, and the first and the fifth are in bytes of the heap.
 FIRST, COUNT = 0, 6
 
 
